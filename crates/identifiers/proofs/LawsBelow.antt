@@ -1,0 +1,74 @@
+-- Laws of what is said of every index below a number: none yet, one more, and what the whole says of each. One loop law for all loops.
+use mathlib.Core.Path.{_≡_, refl, sym, ap, _∙_}
+use mathlib.Core.Bool.{Bool, true, false}
+use mathlib.Core.List.{List, [], _++_, append-nil}
+use mathlib.Core.Logic.{⊎-elim}
+use Prim.Native.Nat.{ℕ, zero, suc, _+_, _<_, _≤_}
+use native.Mathlib.Nat.{eq-or-lt-of-le}
+use native.Mathlib.Numerals.{add-one}
+use native.Mathlib.Omega.{arith}
+use lib.ListN.{length, length-append}
+use Rattle.identifiers.specs.Choice.{pick, both}
+use Rattle.identifiers.specs.Below.{allBelow, countBelow, listBelow}
+use Rattle.identifiers.proofs.LawsChoice.{both-false, both-true}
+
+-- ---- allBelow
+pub all-none : (p : ℕ → Bool) → allBelow p 0 ≡ true
+unfolding allBelow
+all-none p = refl
+
+pub all-more : (p : ℕ → Bool) (n : ℕ) → allBelow p n ≡ true → p n ≡ true → allBelow p (n + 1) ≡ true
+unfolding allBelow both
+all-more p n h e = rw (add-one n, h, e)
+
+pub all-fails : (p : ℕ → Bool) (i n : ℕ) → i < n → p i ≡ false → allBelow p n ≡ false
+unfolding allBelow both
+all-fails p i zero h e = absurd (omega arith)
+all-fails p i (suc n) h e =
+    ⊎-elim (λ (q : i ≡ n). rw (ap p (sym q) ∙ e) (both-false (allBelow p n))) (λ (q : i < n). rw (all-fails p i n q e)) (eq-or-lt-of-le (omega arith))
+
+pub all-at : (p : ℕ → Bool) (i n : ℕ) → allBelow p n ≡ true → i < n → p i ≡ true
+unfolding allBelow
+all-at p i zero h l = absurd (omega arith)
+all-at p i (suc n) h l =
+    let e = both-true (allBelow p n) (p n) h in
+    ⊎-elim (λ (q : i ≡ n). ap p q ∙ e .1) (λ (q : i < n). all-at p i n (e .0) q) (eq-or-lt-of-le (omega arith))
+
+pub all-each : (p : ℕ → Bool) (n : ℕ) → ((i : ℕ) → i < n → p i ≡ true) → allBelow p n ≡ true
+unfolding allBelow both
+all-each p zero h = refl
+all-each p (suc n) h = rw (all-each p n (λ i l. h i (omega arith)), h n (omega arith))
+
+-- ---- countBelow
+pub count-none : (p : ℕ → Bool) → countBelow p 0 ≡ 0
+unfolding countBelow
+count-none p = refl
+
+pub count-hit : (p : ℕ → Bool) (n : ℕ) → p n ≡ true → countBelow p (n + 1) ≡ countBelow p n + 1
+unfolding countBelow pick
+count-hit p n e = rw (add-one n, e)
+
+pub count-miss : (p : ℕ → Bool) (n : ℕ) → p n ≡ false → countBelow p (n + 1) ≡ countBelow p n
+unfolding countBelow pick
+count-miss p n e = rw (add-one n, e)
+
+-- ---- listBelow
+pub list-none : (f : ℕ → List ℕ) → listBelow f 0 ≡ []
+unfolding listBelow
+list-none f = refl
+
+pub list-more : (f : ℕ → List ℕ) (n : ℕ) → listBelow f (n + 1) ≡ listBelow f n ++ f n
+unfolding listBelow
+list-more f n = rw add-one
+
+pub list-same : (f : ℕ → List ℕ) (n : ℕ) → f n ≡ [] → listBelow f (n + 1) ≡ listBelow f n
+list-same f n e = list-more f n ∙ ap (λ (l : List ℕ). listBelow f n ++ l) e ∙ append-nil (listBelow f n)
+
+pub length-more : (f : ℕ → List ℕ) (n : ℕ) → length (listBelow f (n + 1)) ≡ length (listBelow f n) + length (f n)
+length-more f n = ap length (list-more f n) ∙ length-append (listBelow f n) (f n)
+
+pub length-mono : (f : ℕ → List ℕ) (m n : ℕ) → m ≤ n → length (listBelow f m) ≤ length (listBelow f n)
+length-mono f m zero h = let e : m ≡ zero = omega arith in rw e (omega arith)
+length-mono f m (suc n) h =
+    ⊎-elim (λ (q : m ≡ suc n). rw q (omega arith))
+    (λ (q : m < suc n). omega (arith, length-mono f m n (omega arith), length-more f n, ap (λ (k : ℕ). length (listBelow f k)) (add-one n))) (eq-or-lt-of-le h)

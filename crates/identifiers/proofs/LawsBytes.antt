@@ -1,0 +1,89 @@
+-- Laws of bytes put into a buffer: the first run, then the next one; a loop that copies; a loop that puts f 0, f 1, ..
+use mathlib.Core.Path.{_≡_, refl, sym, ap, _∙_}
+use mathlib.Core.List.{List, [], _∷_, _++_, append-nil, append-assoc}
+use Prim.Native.Nat.{ℕ, _+_, _≤_, _<_}
+use native.Mathlib.Numerals.{add-one}
+use native.Mathlib.Omega.{arith}
+use lib.ListN.{length, getD, take, drop, set, length-set, length-append}
+use lib.Seq.{take-suc, take-suc-set, drop-set-lt}
+use Rattle.identifiers.specs.Below.{listBelow}
+use Rattle.identifiers.specs.Bytes.{written, Puts}
+use Rattle.identifiers.proofs.LawsBelow.{list-more, list-same}
+
+-- ---- written
+pub written-none : (buffer : List ℕ) (at : ℕ) → written buffer at [] ≡ buffer
+unfolding written
+written-none buffer at = refl
+
+pub length-written : (buffer : List ℕ) (at : ℕ) (bytes : List ℕ) → length (written buffer at bytes) ≡ length buffer
+unfolding written
+length-written buffer at [] = refl
+length-written buffer at (b ∷ bytes) = length-written (set buffer at b) (at + 1) bytes ∙ length-set buffer at b
+
+pub written-append : (buffer : List ℕ) (at : ℕ) (xs ys : List ℕ) → written buffer at (xs ++ ys) ≡ written (written buffer at xs) (at + length xs) ys
+unfolding written
+written-append buffer at [] ys = ap (λ (k : ℕ). written buffer k ys) (omega arith)
+written-append buffer at (a ∷ xs) ys = written-append (set buffer at a) (at + 1) xs ys ∙ ap (λ (k : ℕ). written (written (set buffer at a) (at + 1) xs) k ys) (omega arith)
+
+-- up to the end of the bytes: what stood before them, and they
+pub take-written : (buffer : List ℕ) (at : ℕ) (bytes : List ℕ) → at + length bytes ≤ length buffer → take (at + length bytes) (written buffer at bytes) ≡ take at buffer ++ bytes
+unfolding written
+take-written buffer at [] h = let e : at + 0 ≡ at = omega arith in ap (λ (n : ℕ). take n buffer) e ∙ sym (append-nil (take at buffer))
+take-written buffer at (b ∷ bytes) h =
+    let l : at + 1 + length bytes ≤ length (set buffer at b) = rw length-set (omega arith) in
+    let e : at + length (b ∷ bytes) ≡ at + 1 + length bytes = omega arith in
+    ap (λ (n : ℕ). take n (written (set buffer at b) (at + 1) bytes)) e
+    ∙ take-written (set buffer at b) (at + 1) bytes l
+    ∙ ap (λ (n : ℕ). take n (set buffer at b) ++ bytes) (add-one at)
+    ∙ ap (λ (l : List ℕ). l ++ bytes) (take-suc-set buffer at b (omega arith))
+    ∙ append-assoc (take at buffer) (b ∷ []) bytes
+
+-- from the end of the bytes on: as it was
+pub drop-written : (buffer : List ℕ) (at : ℕ) (bytes : List ℕ) → drop (at + length bytes) (written buffer at bytes) ≡ drop (at + length bytes) buffer
+unfolding written
+drop-written buffer at [] = refl
+drop-written buffer at (b ∷ bytes) =
+    let e : at + length (b ∷ bytes) ≡ at + 1 + length bytes = omega arith in
+    rw e (drop-written (set buffer at b) (at + 1) bytes ∙ drop-set-lt (at + 1 + length bytes) buffer at b (omega arith))
+
+-- ---- Puts
+pub puts-none : (buffer : List ℕ) (at : ℕ) → Puts buffer at [] at buffer
+unfolding written
+puts-none buffer at = record { ends = omega arith; holds = refl }
+
+pub puts-byte : (buffer : List ℕ) (at b : ℕ) → Puts buffer at (b ∷ []) (at + 1) (set buffer at b)
+unfolding written
+puts-byte buffer at b = record { ends = refl; holds = refl }
+
+-- what is put in two runs, one after the other
+infixl 10 _▸_
+pub _▸_ : {a b c xs ys : List ℕ} {at mid end : ℕ} → Puts a at xs mid b → Puts b mid ys end c → Puts a at (xs ++ ys) end c
+_▸_ {a} {b} {c} {xs} {ys} {at} p q =
+    record {
+      ends = omega (arith, p .ends, q .ends, length-append xs ys);
+      holds = q .holds ∙ ap (λ (k : ℕ). written b k ys) (p .ends) ∙ ap (λ (l : List ℕ). written l (at + length xs) ys) (p .holds) ∙ sym (written-append a at xs ys);
+    }
+
+pub keeps-length : {a b bytes : List ℕ} {at end : ℕ} → Puts a at bytes end b → length b ≡ length a
+keeps-length {a} {b} {bytes} {at} p = ap length (p .holds) ∙ length-written a at bytes
+
+-- what was put from the start on stands there
+pub puts-whole : {a b bytes : List ℕ} {end : ℕ} → length bytes ≤ length a → Puts a 0 bytes end b → take end b ≡ bytes
+puts-whole {a} {b} {bytes} h p = ap (λ (n : ℕ). take n b) (p .ends) ∙ ap (λ (l : List ℕ). take (0 + length bytes) l) (p .holds) ∙ take-written a 0 bytes (omega arith)
+
+-- ---- loops
+-- a loop that copies a text byte by byte: one byte more
+pub copy-more : {a b : List ℕ} (text : List ℕ) (at i : ℕ) → i < length text → Puts a at (take i text) (at + i) b
+    → Puts a at (take (i + 1) text) (at + (i + 1)) (set b (at + i) (getD text i 0))
+copy-more {a} {b} text at i l h =
+    let p = h ▸ (puts-byte b (at + i) (getD text i 0)) in
+    let e : take (i + 1) text ≡ take i text ++ (getD text i 0 ∷ []) = ap (λ (k : ℕ). take k text) (add-one i) ∙ take-suc text i 0 l in
+    record { ends = omega (arith, p .ends, ap length e); holds = p .holds ∙ ap (written a at) (sym e) }
+
+-- a loop that puts f k: a turn that puts it, and one in which it is nothing
+pub turn : (f : ℕ → List ℕ) (k : ℕ) {a b c bytes : List ℕ} {at mid end : ℕ} → Puts a at (listBelow f k) mid b → bytes ≡ f k → Puts b mid bytes end c
+    → Puts a at (listBelow f (k + 1)) end c
+turn f k p e q = rw (list-more f k) (p ▸ (rw e at q))
+
+pub turn-none : (f : ℕ → List ℕ) (k : ℕ) {a b : List ℕ} {at mid : ℕ} → Puts a at (listBelow f k) mid b → f k ≡ [] → Puts a at (listBelow f (k + 1)) mid b
+turn-none f k p e = rw (list-same f k e) p

@@ -1,0 +1,42 @@
+-- `Identifier::write` meets its contract: the sum in u32 is the formula with R 0.
+use mathlib.Core.Path.{sym, ap, _∙_}
+use native.Mathlib.Omega.{arith}
+use borrow.Author.Needs.{needs}
+use borrow.Author.Tests.{lt-ltb, le-ltb}
+use Rattle.identifiers.specs.Identifiers.{formula}
+use Rattle.identifiers.specs.declared.identifier.IdentifierWritten.the-variants.{Number}
+use Rattle.identifiers.proofs.LawsChoice.{left-holds, right-decides}
+use Rattle.identifiers.proofs.LawsIdentifiers.{write-16, write-number}
+use Rattle.identifiers.proofs.identifier.Identifier.write.Statement.{statement}
+use Rattle.identifiers.proofs.identifier.Identifier.write.Tie as tie
+
+returns : tie.Need-returns
+returns c = sym (write-16 _ (sym (left-holds _ (lt-ltb _ _ (c .if1 .taken)))))
+
+returns-2 : tie.Need-returns-2
+returns-2 c = sym (write-16 _ (sym (right-decides (le-ltb _ _ (c .before .before .if1 .left)) (sym (lt-ltb _ _ (c .if2 .taken))))))
+
+returns-3 : tie.Need-returns-3
+unfolding formula
+returns-3 c = ap Number (omega arith) ∙ sym (write-number (c .before .before .before .before .before .before .before .before .before .args .self) (c .before .before .before .before .before .before .before .if1 .left) (c .before .before .before .before .before .if2 .left))
+
+pub write-spec : {M : Type 1} → statement M
+write-spec =
+    tie.close
+    (tie.spec
+    returns
+    returns-2
+    (λ c. search needs)
+    (λ c. search needs)
+    (λ c. search needs)
+    (λ c. search needs)
+    (λ c. search needs)
+    (λ c. search needs)
+    (λ c. search needs)
+    (λ c. search needs)
+    (λ c. search needs)
+    (λ c. search needs)
+    (λ c. search needs)
+    (λ c. search needs)
+    (λ c. search needs)
+    returns-3)

@@ -1,0 +1,6 @@
+-- The root of the crate's definitions.
+pub mod Choice
+pub mod Below
+pub mod Bytes
+pub mod Refusals
+pub mod Identifiers

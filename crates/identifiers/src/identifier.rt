@@ -1,0 +1,146 @@
+// The 29-bit identifier: P x 2^26 + R x 2^25 + DP x 2^24 + PF x 2^16 + PS x 2^8 + SA.
+ghost use mathlib.Core.Path.{_≡_};
+ghost use lib.ListN.{length};
+ghost use Rattle.identifiers.specs.Identifiers.{frameRead, readOf, writtenAs, targetOf, readTold, writtenTold};
+use crate::refusal::Refusal;
+
+// P, DP, PF, PS and SA.
+#[repr(C)]
+pub struct Identifier {
+    pub priority: u8,
+    pub data_page: u8,
+    pub format: u8,
+    pub specific: u8,
+    pub source: u8,
+}
+
+pub enum IdentifierRead {
+    Fields(Identifier),
+    Refused(Refusal),
+}
+
+pub enum IdentifierWritten {
+    Number(u32),
+    Refused(Refusal),
+}
+
+// What PS is.
+pub enum Target {
+    Destination(u8),
+    GroupExtension(u8),
+}
+
+// The reader's answer in numbers: the refusal, 0 for none, and the fields, all 0 where refused.
+#[repr(C)]
+pub struct IdentifierReadTold {
+    pub refusal: u8,
+    pub fields: Identifier,
+}
+
+// The writer's answer in numbers: the refusal, 0 for none, and the identifier, 0 where refused.
+#[repr(C)]
+pub struct IdentifierWrittenTold {
+    pub refusal: u8,
+    pub number: u32,
+}
+
+// Checks 2, 3 and 4 of a number and a count of data bytes.
+fn checked(number: u32, count: usize) -> IdentifierRead
+    ensures { λ r. ⌜ r ≡ frameRead number count ⌝ }
+{
+    if 536870912 <= number {
+        return IdentifierRead::Refused(Refusal::IdentifierTooLarge);
+    }
+    if 8 < count {
+        return IdentifierRead::Refused(Refusal::TooManyDataBytes);
+    }
+    if number / 33554432 % 2 == 1 {
+        return IdentifierRead::Refused(Refusal::ReservedBitSet);
+    }
+    IdentifierRead::Fields(Identifier {
+        priority: (number / 67108864 % 8) as u8,
+        data_page: (number / 16777216 % 2) as u8,
+        format: (number / 65536 % 256) as u8,
+        specific: (number / 256 % 256) as u8,
+        source: (number % 256) as u8,
+    })
+}
+
+impl Identifier {
+    // The fields of a number: refusal 2, then 4.
+    pub fn read(number: u32) -> IdentifierRead
+        ensures { λ r. ⌜ r ≡ readOf number ⌝ }
+    {
+        checked(number, 0)
+    }
+
+    // The fields of a frame's number: refusal 2, then 3 for its data, then 4.
+    pub fn of_frame(number: u32, data: &[u8]) -> IdentifierRead
+        ensures { λ r. ⌜ r ≡ frameRead number (length (now («data» .entry))) ⌝ }
+    {
+        checked(number, data.len())
+    }
+
+    // The number of the fields, with R 0: refusal 16 where P is over 7 or DP over 1.
+    pub fn write(self) -> IdentifierWritten
+        ensures { λ r. ⌜ r ≡ writtenAs self ⌝ }
+    {
+        if 7 < self.priority {
+            return IdentifierWritten::Refused(Refusal::NotWritable);
+        }
+        if 1 < self.data_page {
+            return IdentifierWritten::Refused(Refusal::NotWritable);
+        }
+        IdentifierWritten::Number(
+            self.priority as u32 * 67108864
+                + self.data_page as u32 * 16777216
+                + self.format as u32 * 65536
+                + self.specific as u32 * 256
+                + self.source as u32,
+        )
+    }
+
+    // PF below 240: PS is a destination. Otherwise a group extension.
+    pub fn target(self) -> Target
+        ensures { λ r. ⌜ r ≡ targetOf self ⌝ }
+    {
+        if self.format < 240 {
+            return Target::Destination(self.specific);
+        }
+        Target::GroupExtension(self.specific)
+    }
+}
+
+impl IdentifierRead {
+    pub fn told(self) -> IdentifierReadTold
+        ensures { λ r. ⌜ r ≡ readTold self ⌝ }
+    {
+        match self {
+            IdentifierRead::Fields(fields) => IdentifierReadTold { refusal: 0, fields },
+            IdentifierRead::Refused(why) => IdentifierReadTold {
+                refusal: why.number(),
+                fields: Identifier {
+                    priority: 0,
+                    data_page: 0,
+                    format: 0,
+                    specific: 0,
+                    source: 0,
+                },
+            },
+        }
+    }
+}
+
+impl IdentifierWritten {
+    pub fn told(self) -> IdentifierWrittenTold
+        ensures { λ r. ⌜ r ≡ writtenTold self ⌝ }
+    {
+        match self {
+            IdentifierWritten::Number(number) => IdentifierWrittenTold { refusal: 0, number },
+            IdentifierWritten::Refused(why) => IdentifierWrittenTold {
+                refusal: why.number(),
+                number: 0,
+            },
+        }
+    }
+}

@@ -1,0 +1,11 @@
+// The refusal numbers, and the 29-bit identifier: read from a number, and written from its fields.
+mod identifier;
+mod refusal;
+
+pub use identifier::Identifier;
+pub use identifier::IdentifierRead;
+pub use identifier::IdentifierReadTold;
+pub use identifier::IdentifierWritten;
+pub use identifier::IdentifierWrittenTold;
+pub use identifier::Target;
+pub use refusal::Refusal;
