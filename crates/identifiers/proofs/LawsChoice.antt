@@ -1,6 +1,6 @@
 -- Laws of choices by a test, for ladders of returns: a rung is taken, or passed.
 use mathlib.Core.Path.{_≡_, refl}
-use mathlib.Core.Bool.{Bool, true, false, false≢true}
+use mathlib.Core.Bool.{Bool, true, false, false≢true, _&&_, _||_}
 use Rattle.identifiers.specs.Choice.{pick, both, either}
 
 -- ---- pick
@@ -43,6 +43,12 @@ was-taken true x y r n e = (refl, e)
 was-taken false x y r n e = absurd (n e)
 
 -- ---- both
+-- what the code's `&` gives
+pub and-is : (a b : Bool) → a && b ≡ both a b
+unfolding both
+and-is true b = refl
+and-is false b = refl
+
 pub stop : {a : Bool} (b : Bool) → a ≡ false → false ≡ both a b
 unfolding both
 stop b p = rw p
@@ -70,6 +76,12 @@ pub both-true : (a b : Bool) → both a b ≡ true → (a ≡ true) × (b ≡ tr
 both-true a b e = (both-left a b e, both-right a b e)
 
 -- ---- either
+-- what the code's `|` gives
+pub or-is : (a b : Bool) → a || b ≡ either a b
+unfolding either
+or-is true b = refl
+or-is false b = refl
+
 pub left-holds : {a : Bool} (b : Bool) → a ≡ true → true ≡ either a b
 unfolding either
 left-holds b p = rw p

@@ -1,0 +1,77 @@
+-- The route in laws: each refusal, what passes, what is kept and sent on; a frame is never sent back, and priority is ignored.
+use mathlib.Core.Path.{_≡_, refl, sym, ap, _∙_}
+use mathlib.Core.Bool.{Bool, true, false}
+use Prim.Native.Nat.{ℕ}
+use native.Mathlib.Omega.{arith}
+use Rattle.identifiers.specs.Choice.{pick}
+use Rattle.identifiers.specs.Refusals.{refusal}
+use Rattle.identifiers.specs.Identifiers.{frameRead, targetOf}
+use Rattle.identifiers.specs.declared.refusal.Refusal.{Refusal}
+use Rattle.identifiers.specs.declared.identifier.Identifier.{Identifier}
+use Rattle.identifiers.specs.declared.identifier.IdentifierRead.{IdentifierRead}
+use Rattle.identifiers.specs.declared.identifier.IdentifierRead.the-variants as read
+use Rattle.identifiers.proofs.LawsChoice.{pick-true, pick-false}
+use Rattle.readings.specs.declared.position.Position.{Position}
+use Rattle.readings.specs.declared.position.Vehicle.{Vehicle}
+use Rattle.readings.specs.declared.position.Vehicle.the-variants.{At, NoVehicle}
+use Rattle.readings.specs.declared.routing.Side.{Side}
+use Rattle.readings.specs.declared.routing.Side.the-variants.{Predecessor, Successor}
+use Rattle.readings.specs.declared.routing.Onward.{Onward}
+use Rattle.readings.specs.declared.routing.Onward.the-variants.{Nowhere, ToPredecessor, ToSuccessor}
+use Rattle.readings.specs.declared.routing.Routed.{Routed}
+use Rattle.readings.specs.declared.routing.Routed.the-variants.{Passed, Neither, Refused}
+use Rattle.readings.specs.Positions.{placeOf, vehicleOf}
+use Rattle.readings.specs.Routes.{ownAt, comes, onwardOf, passage, routedFrom, routedBy, routedRead, routedAt, routeOf}
+
+-- ---- the route of a frame whose fields were read
+module _ (side : Side) (own : Position) (successor : Bool) (i : Identifier) where
+  pub from-none : vehicleOf (i .source) ≡ NoVehicle → routedBy side own successor i ≡ Neither
+  unfolding routedBy routedFrom
+  from-none h = ap (routedFrom side own successor i) h
+
+  pub from-wrong : (p : Position) → vehicleOf (i .source) ≡ At p → comes side (placeOf own) successor (placeOf p) ≡ false → routedBy side own successor i ≡ Neither
+  unfolding routedBy routedFrom
+  from-wrong p h k = ap (routedFrom side own successor i) h ∙ pick-false _ _ k
+
+  pub from-right : (p : Position) → vehicleOf (i .source) ≡ At p → comes side (placeOf own) successor (placeOf p) ≡ true
+      → routedBy side own successor i ≡ Passed (passage side own successor i)
+  unfolding routedBy routedFrom
+  from-right p h k = ap (routedFrom side own successor i) h ∙ pick-true _ _ k
+
+-- ---- one law a rung: 1, then what the frame's reader refuses, else the route
+module _ (side : Side) (own : ℕ) (successor : Bool) (number count : ℕ) where
+  pub route-1 : ownAt own successor ≡ NoVehicle → routeOf side own successor number count ≡ Refused (refusal 1)
+  unfolding routeOf routedAt
+  route-1 h = ap (routedAt side successor (frameRead number count)) h
+
+  pub route-refused : (p : Position) (why : Refusal) → ownAt own successor ≡ At p → frameRead number count ≡ read.Refused why → routeOf side own successor number count ≡ Refused why
+  unfolding routeOf routedAt routedRead
+  route-refused p why h k = ap (routedAt side successor (frameRead number count)) h ∙ ap (routedRead side p successor) k
+
+  pub route-read : (p : Position) (i : Identifier) → ownAt own successor ≡ At p → frameRead number count ≡ read.Fields i
+      → routeOf side own successor number count ≡ routedBy side p successor i
+  unfolding routeOf routedAt routedRead
+  route-read p i h k = ap (routedAt side successor (frameRead number count)) h ∙ ap (routedRead side p successor) k
+
+-- ---- a frame is never sent back to the side it came from
+abbrev pub back : Side → Onward
+back Predecessor = ToPredecessor
+back Successor = ToSuccessor
+
+pub never-back : (side : Side) (successor : Bool) → onwardOf side successor ≡ back side → ⊥
+unfolding onwardOf pick
+never-back Predecessor true e = let z : _≡_ {A = ℕ} 0 1 = cc in omega arith
+never-back Predecessor false e = let z : _≡_ {A = ℕ} 0 1 = cc in omega arith
+never-back Successor successor e = let z : _≡_ {A = ℕ} 0 1 = cc in omega arith
+
+-- ---- "Priority is ignored on receipt"
+abbrev pub withPriority : ℕ → Identifier → Identifier
+withPriority p i = record { priority = p; «data_page» = i .«data_page»; format = i .format; specific = i .specific; source = i .source }
+
+pub priority-ignored : (side : Side) (own : Position) (successor : Bool) (i : Identifier) (p : ℕ) → routedBy side own successor (withPriority p i) ≡ routedBy side own successor i
+unfolding routedBy routedFrom passage targetOf
+priority-ignored side own successor i p = go (vehicleOf (i .source))
+  where
+    go : (v : Vehicle) → routedFrom side own successor (withPriority p i) v ≡ routedFrom side own successor i v
+    go (At q) = refl
+    go NoVehicle = refl

@@ -1,0 +1,6 @@
+-- The crate's laws, which belong to no one function.
+pub mod LawsPositions
+pub mod LawsRoutes
+pub mod LawsFractions
+pub mod LawsWholes
+pub mod LawsReadings

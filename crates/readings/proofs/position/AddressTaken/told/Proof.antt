@@ -1,0 +1,17 @@
+-- `AddressTaken::told` meets its contract: the numbers of each case.
+use mathlib.Core.Path.{sym, ap}
+use borrow.Author.Needs.{needs}
+use Rattle.readings.specs.Positions.{addressTold}
+use Rattle.readings.proofs.position.AddressTaken.told.Statement.{statement}
+use Rattle.readings.proofs.position.AddressTaken.told.Tie as tie
+
+returns : tie.Need-returns
+unfolding addressTold
+returns c = rw (c .place .ensures) (ap addressTold (sym (c .before .before .self .given .1)))
+
+returns-2 : tie.Need-returns-2
+unfolding addressTold
+returns-2 c = rw (c .number .ensures) (ap addressTold (sym (c .before .before .self2 .given .1)))
+
+pub told-spec : {M : Type 1} → statement M
+told-spec = tie.close (tie.spec (λ c. search needs) (λ c κs. search needs) (λ c. search needs) (λ c κs. search needs) returns returns-2)

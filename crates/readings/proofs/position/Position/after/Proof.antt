@@ -1,0 +1,29 @@
+-- `Position::after` meets its contract: by the vehicle that has the address, to the one after it.
+use mathlib.Core.Path.{sym, ap, _∙_}
+use borrow.Author.Needs.{needs}
+use Rattle.readings.proofs.LawsPositions.{after-none, after-last, after-next}
+use Rattle.readings.proofs.position.Position.after.Statement.{statement}
+use Rattle.readings.proofs.position.Position.after.Tie as tie
+
+returns : tie.Need-returns
+returns c = sym (after-none _ (sym (c .before .before .of-address .ensures) ∙ (c .enum-told .given .1)))
+
+returns-2 : tie.Need-returns-2
+returns-2 c = sym (after-last _ _ (sym (c .before .before .before .before .before .before .of-address .ensures) ∙ (c .before .before .before .before .predecessor .given .1)) (sym (c .before .before .successor .ensures) ∙ (c .enum-told2 .given .1)))
+
+returns-3 : tie.Need-returns-3
+returns-3 c = sym (after-next _ _ _ (sym (c .before .before .before .before .before .before .before .of-address .ensures) ∙ (c .before .before .before .before .before .predecessor .given .1)) (sym (c .before .before .before .successor .ensures) ∙ (c .before .own .given .1)))
+
+pub after-spec : {M : Type 1} → statement M
+after-spec =
+    tie.close
+    (tie.spec
+    (λ c κs. search needs)
+    (λ c. search needs)
+    (λ c. search needs)
+    returns
+    (λ c κs. search needs)
+    (λ c. search needs)
+    (λ c. search needs)
+    returns-2
+    returns-3)

@@ -1,0 +1,25 @@
+-- `read_parameter` meets its contract: a kind over 7 is refusal 20, and every other has a sound row.
+use mathlib.Core.Path.{refl, sym, ap, subst, _∙_}
+use borrow.Author.Needs.{needs}
+use borrow.Author.Tests.{lt-ltb, le-ltb}
+use Rattle.identifiers.proofs.LawsChoice.{taken, passed}
+use Rattle.readings.specs.declared.kind.Kind.{Kind}
+use Rattle.readings.specs.Kinds.{Sound}
+use Rattle.readings.specs.Readings.{measuredAs, parameterOf}
+use Rattle.readings.proofs.LawsReadings.{kinds-sound}
+use Rattle.readings.proofs.reading.read_parameter.Statement.{statement}
+use Rattle.readings.proofs.reading.read_parameter.Tie as tie
+
+returns : tie.Need-returns
+unfolding parameterOf
+returns c = taken _ (lt-ltb _ _ (c .if1 .taken)) refl
+
+by-high-byte-requires : tie.Need-by-high-byte-requires
+by-high-byte-requires c κs = subst Sound (sym (c .row .ensures)) (kinds-sound (c .before .before .args .kind))
+
+returns-2 : tie.Need-returns-2
+unfolding parameterOf
+returns-2 c = passed _ (le-ltb _ _ (c .before .before .if1 .left)) ((c .by-high-byte .ensures) ∙ ap (λ (k : Kind). measuredAs k (c .before .before .before .args .raw)) (c .before .row .ensures))
+
+pub read-parameter-spec : {M : Type 1} → statement M
+read-parameter-spec = tie.close (tie.spec returns (λ c κs. search needs) by-high-byte-requires returns-2)

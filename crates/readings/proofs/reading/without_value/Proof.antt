@@ -1,0 +1,13 @@
+-- `without_value` meets its contract: the whole number is 0.
+use mathlib.Core.Path.{refl}
+use borrow.Author.Needs.{needs}
+use Rattle.readings.specs.Readings.{bare}
+use Rattle.readings.proofs.reading.without_value.Statement.{statement}
+use Rattle.readings.proofs.reading.without_value.Tie as tie
+
+returns : tie.Need-returns
+unfolding bare
+returns c = refl
+
+pub without-value-spec : {M : Type 1} → statement M
+without-value-spec = tie.close (tie.spec returns)

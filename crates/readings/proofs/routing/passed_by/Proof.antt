@@ -1,0 +1,47 @@
+-- `passed_by` meets its contract: each return is at one of the laws of `routedBy`.
+use mathlib.Core.Path.{_≡_, sym, _∙_}
+use mathlib.Core.Bool.{Bool}
+use Prim.Native.Nat.{ℕ}
+use borrow.Author.Needs.{needs}
+use Rattle.readings.specs.declared.routing.Side.{Side}
+use Rattle.readings.specs.Routes.{comes, passage}
+use Rattle.readings.proofs.LawsRoutes.{from-none, from-wrong, from-right}
+use Rattle.readings.proofs.routing.passed_by.Statement.{statement}
+use Rattle.readings.proofs.routing.passed_by.Tie as tie
+
+-- the test's answer, at the places that were asked for
+came : (side : Side) (successor : Bool) {t r : Bool} {x y a b : ℕ} → a ≡ x → b ≡ y → r ≡ comes side a successor b → r ≡ t → comes side x successor y ≡ t
+came side successor h k l m = cc
+
+returns : tie.Need-returns
+returns c = sym (from-none _ _ _ _ (sym (c .before .before .of-address .ensures) ∙ (c .enum-told .given .1)))
+
+returns-2 : tie.Need-returns-2
+unfolding passage
+returns-2 c =
+    rw ((c .before .names .ensures), (c .before .before .before .address .ensures), (c .before .before .target .ensures), (c .sent-on .ensures))
+    (sym (from-right (c .before .before .before .before .before .before .before .before .before .before .before .before .args .side) (c .before .before .before .before .before .before .before .before .before .before .before .before .args .own) (c .before .before .before .before .before .before .before .before .before .before .before .before .args .successor) (c .before .before .before .before .before .before .before .before .before .before .before .before .args .fields) _ (sym (c .before .before .before .before .before .before .before .before .before .before .before .of-address .ensures) ∙ (c .before .before .before .before .before .before .before .before .before .source .given .1))
+    (came _ _ (c .before .before .before .before .before .before .before .place .ensures) (c .before .before .before .before .before .before .place2 .ensures) (c .before .before .before .before .before .comes-from .ensures) (c .before .before .before .before .if1 .taken))))
+
+returns-3 : tie.Need-returns-3
+returns-3 c =
+    sym (from-wrong (c .before .before .before .before .before .before .before .before .args .side) (c .before .before .before .before .before .before .before .before .args .own) (c .before .before .before .before .before .before .before .before .args .successor) (c .before .before .before .before .before .before .before .before .args .fields) _ (sym (c .before .before .before .before .before .before .before .of-address .ensures) ∙ (c .before .before .before .before .before .source .given .1))
+    (came _ _ (c .before .before .before .place .ensures) (c .before .before .place2 .ensures) (c .before .comes-from .ensures) (c .if1 .left)))
+
+pub passed-by-spec : {M : Type 1} → statement M
+passed-by-spec =
+    tie.close
+    (tie.spec
+    (λ c κs. search needs)
+    (λ c. search needs)
+    (λ c. search needs)
+    returns
+    (λ c κs. search needs)
+    (λ c κs. search needs)
+    (λ c κs. search needs)
+    (λ c κs. search needs)
+    (λ c κs. search needs)
+    (λ c κs. search needs)
+    (λ c κs. search needs)
+    returns-2
+    returns-3)
