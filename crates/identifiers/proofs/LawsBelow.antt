@@ -34,6 +34,11 @@ all-at p i (suc n) h l =
     let e = both-true (allBelow p n) (p n) h in
     ⊎-elim (λ (q : i ≡ n). ap p q ∙ e .1) (λ (q : i < n). all-at p i n (e .0) q) (eq-or-lt-of-le (omega arith))
 
+-- all but the last are known to hold: the last decides
+pub all-last : (p : ℕ → Bool) (n : ℕ) → allBelow p n ≡ true → allBelow p (n + 1) ≡ p n
+unfolding allBelow both
+all-last p n h = rw (add-one n, h)
+
 pub all-each : (p : ℕ → Bool) (n : ℕ) → ((i : ℕ) → i < n → p i ≡ true) → allBelow p n ≡ true
 unfolding allBelow both
 all-each p zero h = refl
