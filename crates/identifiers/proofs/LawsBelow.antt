@@ -1,6 +1,6 @@
 -- Laws of what is said of every index below a number: none yet, one more, and what the whole says of each. One loop law for all loops.
 use mathlib.Core.Path.{_≡_, refl, sym, ap, _∙_}
-use mathlib.Core.Bool.{Bool, true, false}
+use mathlib.Core.Bool.{Bool, true, false, _&&_}
 use mathlib.Core.List.{List, [], _++_, append-nil}
 use mathlib.Core.Logic.{⊎-elim}
 use Prim.Native.Nat.{ℕ, zero, suc, _+_, _<_, _≤_}
@@ -10,7 +10,7 @@ use native.Mathlib.Omega.{arith}
 use lib.ListN.{length, length-append}
 use Rattle.identifiers.specs.Choice.{pick, both}
 use Rattle.identifiers.specs.Below.{allBelow, countBelow, listBelow}
-use Rattle.identifiers.proofs.LawsChoice.{both-false, both-true}
+use Rattle.identifiers.proofs.LawsChoice.{both-false, both-true, and-is}
 
 -- ---- allBelow
 pub all-none : (p : ℕ → Bool) → allBelow p 0 ≡ true
@@ -39,6 +39,11 @@ pub all-last : (p : ℕ → Bool) (n : ℕ) → allBelow p n ≡ true → allBel
 unfolding allBelow both
 all-last p n h = rw (add-one n, h)
 
+-- a loop that keeps a test's answer, `kept = kept & p(n)`
+pub all-turn : (p : ℕ → Bool) (n : ℕ) {kept : Bool} → kept ≡ allBelow p n → (kept && p n) ≡ allBelow p (n + 1)
+unfolding allBelow
+all-turn p n {kept} h = and-is kept (p n) ∙ rw (h, add-one n)
+
 pub all-each : (p : ℕ → Bool) (n : ℕ) → ((i : ℕ) → i < n → p i ≡ true) → allBelow p n ≡ true
 unfolding allBelow both
 all-each p zero h = refl
@@ -56,6 +61,21 @@ count-hit p n e = rw (add-one n, e)
 pub count-miss : (p : ℕ → Bool) (n : ℕ) → p n ≡ false → countBelow p (n + 1) ≡ countBelow p n
 unfolding countBelow pick
 count-miss p n e = rw (add-one n, e)
+
+pub count-each : (p q : ℕ → Bool) (n : ℕ) → ((i : ℕ) → i < n → p i ≡ q i) → countBelow p n ≡ countBelow q n
+unfolding countBelow
+count-each p q zero h = refl
+count-each p q (suc n) h = rw (count-each p q n (λ i l. h i (omega arith)), h n (omega arith))
+
+one-more : (b : Bool) (x n : ℕ) → x ≤ n → pick b (x + 1) x ≤ suc n
+unfolding pick
+one-more true x n h = omega arith
+one-more false x n h = omega arith
+
+pub count-le : (p : ℕ → Bool) (n : ℕ) → countBelow p n ≤ n
+unfolding countBelow
+count-le p zero = omega arith
+count-le p (suc n) = one-more (p n) (countBelow p n) n (count-le p n)
 
 -- ---- listBelow
 pub list-none : (f : ℕ → List ℕ) → listBelow f 0 ≡ []
@@ -77,3 +97,8 @@ length-mono f m zero h = let e : m ≡ zero = omega arith in rw e (omega arith)
 length-mono f m (suc n) h =
     ⊎-elim (λ (q : m ≡ suc n). rw q (omega arith))
     (λ (q : m < suc n). omega (arith, length-mono f m n (omega arith), length-more f n, ap (λ (k : ℕ). length (listBelow f k)) (add-one n))) (eq-or-lt-of-le h)
+
+pub list-each : (f g : ℕ → List ℕ) (n : ℕ) → ((i : ℕ) → i < n → f i ≡ g i) → listBelow f n ≡ listBelow g n
+unfolding listBelow
+list-each f g zero h = refl
+list-each f g (suc n) h = rw (list-each f g n (λ i l. h i (omega arith)), h n (omega arith))

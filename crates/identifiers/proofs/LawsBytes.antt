@@ -55,6 +55,10 @@ pub puts-byte : (buffer : List ℕ) (at b : ℕ) → Puts buffer at (b ∷ []) (
 unfolding written
 puts-byte buffer at b = record { ends = refl; holds = refl }
 
+-- the same bytes, said otherwise
+pub puts-as : {a b xs ys : List ℕ} {at end : ℕ} → Puts a at xs end b → xs ≡ ys → Puts a at ys end b
+puts-as p e = rw e at p
+
 -- what is put in two runs, one after the other
 infixl 10 _▸_
 pub _▸_ : {a b c xs ys : List ℕ} {at mid end : ℕ} → Puts a at xs mid b → Puts b mid ys end c → Puts a at (xs ++ ys) end c

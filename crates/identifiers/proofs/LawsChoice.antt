@@ -86,6 +86,11 @@ pub left-holds : {a : Bool} (b : Bool) → a ≡ true → true ≡ either a b
 unfolding either
 left-holds b p = rw p
 
+pub right-holds : (a : Bool) {b : Bool} → b ≡ true → true ≡ either a b
+unfolding either
+right-holds true p = refl
+right-holds false p = rw p
+
 pub right-decides : {a b r : Bool} → a ≡ false → r ≡ b → r ≡ either a b
 unfolding either
 right-decides p q = rw p q

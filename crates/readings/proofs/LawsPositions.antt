@@ -9,6 +9,7 @@ use lib.ListN.{length, List·getD-eq-default}
 use borrow.Author.Tests.{eqb-true, eqb-false, ne-eqb}
 use Rattle.identifiers.specs.Choice.{pick}
 use Rattle.identifiers.specs.Refusals.{refusal}
+use Rattle.identifiers.specs.declared.refusal.Refusal.{Refusal}
 use Rattle.identifiers.proofs.LawsChoice.{pick-false, was-passed}
 use Rattle.readings.specs.declared.position.Position.{Position}
 use Rattle.readings.specs.declared.position.Position.the-variants.{Zero, One, Two, Three, Four, Five}
@@ -138,3 +139,13 @@ after-last a p e s = ap (λ (v : Vehicle). takenAs (nextOf v)) e ∙ ap takenAs 
 pub after-next : (a : ℕ) (p q : Position) → vehicleOf a ≡ At p → successorOf p ≡ At q → takenAfter a ≡ Own q
 unfolding takenAfter nextOf takenAs
 after-next a p q e s = ap (λ (v : Vehicle). takenAs (nextOf v)) e ∙ ap takenAs s
+
+-- 15 is the only refusal
+only-15 : (v : Vehicle) (why : Refusal) → takenAs v ≡ Refused why → why ≡ refusal 15
+unfolding takenAs
+only-15 (At p) why e = absurd (let z : _≡_ {A = ℕ} 0 1 = cc in omega arith)
+only-15 NoVehicle why e = cc
+
+pub after-15 : (a : ℕ) (why : Refusal) → takenAfter a ≡ Refused why → why ≡ refusal 15
+unfolding takenAfter
+after-15 a why e = only-15 (nextOf (vehicleOf a)) why e

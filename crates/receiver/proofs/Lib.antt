@@ -1,0 +1,17 @@
+-- The crate's laws, which belong to no one function, and the theorems of demand 3.
+pub mod LawsPieces
+pub mod LawsFrames
+pub mod LawsSteps
+pub mod LawsRegions
+pub mod LawsSequences
+pub mod LawsFates
+pub mod LawsViews
+pub mod LawsOthers
+pub mod LawsTracks
+pub mod LawsCarried
+pub mod LawsOwn
+pub mod LawsCuts
+pub mod LawsReadBack
+pub mod LawsSent
+pub mod Examples
+pub mod Demand3

@@ -1,0 +1,33 @@
+-- `fresh` meets its contract: by whether the number is a trailer's position.
+use mathlib.Core.Path.{sym, ap, _∙_}
+use borrow.Author.Needs.{needs}
+use Rattle.receiver.specs.Nodes.{freshNode, done, madeAt, freshOf}
+use Rattle.receiver.proofs.node.fresh.Statement.{statement}
+use Rattle.receiver.proofs.node.fresh.Tie as tie
+
+returns : tie.Need-returns
+unfolding freshOf madeAt
+returns c =
+    let at-trailer = c .before .before .before in
+    let at-all-closed = at-trailer .before in
+    let entry = at-all-closed .before in
+    (c .refused .ensures) ∙ rw (at-all-closed .all-closed .ensures) (ap (madeAt (freshNode (entry .args .own) (entry .args .unit))) (sym (sym (at-trailer .trailer .ensures) ∙ (c .before .enum-told2 .given .1))))
+
+returns-2 : tie.Need-returns-2
+unfolding freshOf madeAt done
+returns-2 c =
+    let at-all-closed = c .before .before .before in
+    let entry = at-all-closed .before in
+    rw (at-all-closed .all-closed .ensures) (ap (madeAt (freshNode (entry .args .own) (entry .args .unit))) (sym (sym (c .before .before .trailer .ensures) ∙ (c .enum-told .given .1))))
+
+pub fresh-spec : {M : Type 1} → statement M
+fresh-spec =
+    tie.close
+    (tie.spec
+    (λ c κs. search needs)
+    (λ c κs. search needs)
+    (λ c. search needs)
+    (λ c. search needs)
+    (λ c κs. search needs)
+    returns
+    returns-2)

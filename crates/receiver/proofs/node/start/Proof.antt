@@ -1,0 +1,12 @@
+-- `start` meets its contract: position 1.
+use borrow.Author.Needs.{needs}
+use Rattle.receiver.specs.Nodes.{startOf}
+use Rattle.receiver.proofs.node.start.Statement.{statement}
+use Rattle.receiver.proofs.node.start.Tie as tie
+
+returns : tie.Need-returns
+unfolding startOf
+returns c = (c .all-closed .ensures)
+
+pub start-spec : {M : Type 1} → statement M
+start-spec = tie.close (tie.spec (λ c κs. search needs) returns)

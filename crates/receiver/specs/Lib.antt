@@ -1,0 +1,10 @@
+-- The root of the crate's definitions.
+pub mod Receptions
+pub mod Nodes
+pub mod Frames
+pub mod Steps
+pub mod Shown
+pub mod Cuts
+pub mod Sequences
+pub mod Runs
+pub mod Terms

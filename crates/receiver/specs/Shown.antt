@@ -1,0 +1,15 @@
+-- "The shown message is a part of the frame's own data or of the reception buffer, never a copy" (document 01, "Frames and trains").
+use mathlib.Core.List.{List, []}
+use Prim.Native.Nat.{ℕ}
+use lib.ListN.{take, drop}
+use Rattle.receiver.specs.declared.step.Outcome.{Outcome}
+use Rattle.receiver.specs.declared.step.Outcome.the-variants.{Refused, OverLong, Opened, Taken, Single, Train}
+use Rattle.receiver.specs.Steps.{regionAt}
+
+unfoldable pub shownOf : List ℕ → List ℕ → Outcome → List ℕ
+shownOf bytes buffer (Refused why) = []
+shownOf bytes buffer (OverLong from) = []
+shownOf bytes buffer (Opened from) = []
+shownOf bytes buffer (Taken from) = []
+shownOf bytes buffer (Single from functional L) = take L (drop 2 bytes)
+shownOf bytes buffer (Train from L) = take L (drop (regionAt from) buffer)

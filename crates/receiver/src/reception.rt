@@ -1,0 +1,36 @@
+// The reception of one vehicle: closed, or open with its length, the consecutive frames taken and the last stamp.
+ghost use mathlib.Core.Path.{_≡_};
+ghost use Rattle.receiver.specs.Receptions.{closed, soundReception};
+
+#[repr(C)]
+pub struct Reception {
+    pub length: u8,
+    pub taken: u8,
+    pub last: u32,
+}
+
+impl Reception {
+    pub const CLOSED: Reception = Reception {
+        length: 0,
+        taken: 0,
+        last: 0,
+    };
+
+    pub fn closed() -> Reception
+        ensures { λ r. ⌜ r ≡ closed ⌝ }
+    {
+        Reception::CLOSED
+    }
+
+    // Closed in its one form, or open with 7 bytes or more of which some are left.
+    pub fn is_sound(self) -> bool
+        ensures { λ r. ⌜ r ≡ soundReception self ⌝ }
+    {
+        let length = self.length as usize;
+        let taken = self.taken as usize;
+        if length == 0 {
+            return (taken == 0) & (self.last == 0);
+        }
+        (7 <= length) & (5 + 6 * taken < length)
+    }
+}

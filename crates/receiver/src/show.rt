@@ -1,0 +1,39 @@
+// The shown message: a part of the frame's own data, or of the reception buffer, never a copy.
+ghost use mathlib.Core.Path.{_≡_};
+ghost use lib.ListN.{take, drop};
+ghost use Rattle.receiver.specs.Shown.{shownOf};
+use crate::step::Outcome;
+
+// The `count` bytes from `at` on, or as many of them as there are.
+fn part<'a>(s: &'a [u8], at: usize, count: usize) -> &'a [u8]
+    ensures { λ r. ⌜ now r ≡ take count (drop at (now (s .entry))) ⌝ }
+{
+    if s.len() < at {
+        return &s[0..0];
+    }
+    if s.len() - at < count {
+        return &s[at..];
+    }
+    let end = at + count;
+    &s[at..end]
+}
+
+pub fn shown<'a>(data: &'a [u8], buffer: &'a [u8], outcome: Outcome) -> &'a [u8]
+    ensures { λ r. ⌜ now r ≡ shownOf (now («data» .entry)) (now (buffer .entry)) outcome ⌝ }
+{
+    match outcome {
+        Outcome::Single {
+            from: _,
+            functional: _,
+            length,
+        } => part(data, 2, length as usize),
+        Outcome::Train { from, length } => {
+            let at = 256 * (from.place() as usize);
+            part(buffer, at, length as usize)
+        }
+        Outcome::Refused(_) => part(data, 0, 0),
+        Outcome::OverLong { from: _ } => part(data, 0, 0),
+        Outcome::Opened { from: _ } => part(data, 0, 0),
+        Outcome::Taken { from: _ } => part(data, 0, 0),
+    }
+}

@@ -1,0 +1,359 @@
+// One frame received: judged by itself, then by its vehicle's reception; the bytes written; the next node.
+ghost use mathlib.Core.Path.{_≡_};
+ghost use mathlib.Core.Bool.{true};
+ghost use Prim.Native.Nat.{_+_, _*_, _≤_, _<_, min};
+ghost use lib.ListN.{length};
+ghost use Rattle.readings.specs.Positions.{placeOf};
+ghost use Rattle.receiver.specs.Receptions.{soundReception};
+ghost use Rattle.receiver.specs.Steps.{gapOf, kept, shut, opened, takenStep, followed, stepOf, receivedOf, bufferAfter, dueOf, nothingTold, outcomeTold, judgedPlace};
+use crate::bytes::store;
+use crate::frame::Judged;
+use crate::frame::judge;
+use crate::node::Node;
+use crate::node::is_sound;
+use crate::reception::Reception;
+use identifiers::Refusal;
+use readings::Position;
+use readings::Vehicle;
+
+pub enum Outcome {
+    Refused(Refusal),
+    OverLong {
+        from: Position,
+    },
+    Opened {
+        from: Position,
+    },
+    Taken {
+        from: Position,
+    },
+    Single {
+        from: Position,
+        functional: bool,
+        length: u8,
+    },
+    Train {
+        from: Position,
+        length: u8,
+    },
+}
+
+pub enum Control {
+    Continue,
+    Overflow,
+}
+
+// The flow control that is due, and to whom.
+pub enum Due {
+    Nothing,
+    Send { control: Control, to: Position },
+}
+
+// The same in numbers: the refusal, 0 for none; what is handed out, 0 nothing, 1 a single frame, 2 a train; from whom, functional or not, where the message
+// starts in the frame's data or in the buffer, its length; and the control that is due to that vehicle, 0 none, 1 continue, 2 overflow.
+#[repr(C)]
+pub struct OutcomeTold {
+    pub refusal: u8,
+    pub handed_out: u8,
+    pub from: u8,
+    pub functional: bool,
+    pub start: u16,
+    pub length: u8,
+    pub control: u8,
+}
+
+pub struct Received {
+    pub node: Node,
+    pub outcome: Outcome,
+}
+
+// What a frame does: its vehicle's reception afterwards, `count` bytes of its data, from `start` on, written at `at`, and the outcome.
+pub struct Step {
+    pub reception: Reception,
+    pub at: usize,
+    pub start: usize,
+    pub count: usize,
+    pub outcome: Outcome,
+}
+
+// Milliseconds from the earlier stamp to the later; stamps run round.
+fn gap(later: u32, earlier: u32) -> u32
+    ensures { λ r. ⌜ r ≡ gapOf later earlier ⌝ }
+{
+    std::num::wrapping_sub_u32(later, earlier)
+}
+
+// Nothing changes.
+fn keep(reception: Reception, outcome: Outcome) -> Step
+    ensures { λ r. ⌜ r ≡ kept reception outcome ⌝ }
+{
+    Step {
+        reception,
+        at: 0,
+        start: 0,
+        count: 0,
+        outcome,
+    }
+}
+
+// The reception is closed.
+fn close(outcome: Outcome) -> Step
+    ensures { λ r. ⌜ r ≡ shut outcome ⌝ }
+{
+    Step {
+        reception: Reception::CLOSED,
+        at: 0,
+        start: 0,
+        count: 0,
+        outcome,
+    }
+}
+
+fn place(position: Position) -> usize
+    ensures { λ r. ⌜ (r ≡ placeOf position) × (r < 6) ⌝ }
+{
+    position.place() as usize
+}
+
+// A first frame opens the reception anew.
+fn open_anew(from: Position, length: u8, stamp: u32) -> Step
+    ensures { λ r. ⌜ r ≡ opened from length stamp ⌝ }
+{
+    Step {
+        reception: Reception {
+            length,
+            taken: 0,
+            last: stamp,
+        },
+        at: 256 * place(from),
+        start: 3,
+        count: 5,
+        outcome: Outcome::Opened { from },
+    }
+}
+
+// A consecutive frame in order and in time is taken; the last one ends the train.
+fn take(reception: Reception, from: Position, stamp: u32) -> Step
+    requires { ⌜ (soundReception reception ≡ true) × (7 ≤ reception .length) ⌝ }
+    ensures { λ r. ⌜ r ≡ takenStep reception from stamp ⌝ }
+{
+    let length = reception.length as usize;
+    let done = 5 + 6 * (reception.taken as usize);
+    let at = 256 * place(from) + done;
+    if 6 < length - done {
+        return Step {
+            reception: Reception {
+                length: reception.length,
+                taken: reception.taken + 1,
+                last: stamp,
+            },
+            at,
+            start: 2,
+            count: 6,
+            outcome: Outcome::Taken { from },
+        };
+    }
+    Step {
+        reception: Reception::CLOSED,
+        at,
+        start: 2,
+        count: length - done,
+        outcome: Outcome::Train {
+            from,
+            length: reception.length,
+        },
+    }
+}
+
+fn at_most_six(left: usize) -> usize
+    ensures { λ r. ⌜ r ≡ min 6 left ⌝ }
+{
+    if left < 6 {
+        return left;
+    }
+    6
+}
+
+// A consecutive frame of `count` data bytes: 12, then 9, 13 and 14.
+fn follow(reception: Reception, from: Position, number: u8, count: usize, stamp: u32) -> Step
+    requires { ⌜ soundReception reception ≡ true ⌝ }
+    ensures { λ r. ⌜ r ≡ followed reception from number count stamp ⌝ }
+{
+    let length = reception.length as usize;
+    let taken = reception.taken as usize;
+    if length == 0 {
+        return keep(reception, Outcome::Refused(Refusal::NothingOpen));
+    }
+    if count < 2 + at_most_six(length - (5 + 6 * taken)) {
+        return keep(reception, Outcome::Refused(Refusal::Malformed));
+    }
+    if number as usize != (taken + 1) % 16 {
+        return close(Outcome::Refused(Refusal::WrongNumber));
+    }
+    if 150 < gap(stamp, reception.last) {
+        return close(Outcome::Refused(Refusal::Late));
+    }
+    take(reception, from, stamp)
+}
+
+// What a judged frame does to its vehicle's reception.
+fn decide(reception: Reception, judged: Judged, count: usize, stamp: u32) -> Step
+    requires { ⌜ soundReception reception ≡ true ⌝ }
+    ensures { λ r. ⌜ (r ≡ stepOf reception judged count stamp) × (reception .length ≤ 255) ⌝ }
+{
+    match judged {
+        Judged::Refused(why) => keep(reception, Outcome::Refused(why)),
+        Judged::Single {
+            from,
+            functional,
+            length,
+        } => {
+            let outcome = Outcome::Single {
+                from,
+                functional,
+                length,
+            };
+            if functional {
+                keep(reception, outcome)
+            } else {
+                close(outcome)
+            }
+        }
+        Judged::First { from, length } => open_anew(from, length, stamp),
+        Judged::OverLong { from } => close(Outcome::OverLong { from }),
+        Judged::Consecutive { from, number } => follow(reception, from, number, count, stamp),
+    }
+}
+
+// The place of the vehicle whose reception a judged frame is about; 0 where checks 2 to 10 refuse it.
+fn place_of(judged: Judged) -> usize
+    ensures { λ r. ⌜ (r ≡ judgedPlace judged) × (r < 6) ⌝ }
+{
+    match judged {
+        Judged::Refused(_) => 0,
+        Judged::Single {
+            from,
+            functional: _,
+            length: _,
+        } => place(from),
+        Judged::First { from, length: _ } => place(from),
+        Judged::OverLong { from } => place(from),
+        Judged::Consecutive { from, number: _ } => place(from),
+    }
+}
+
+// A frame offered to the node: refusals 1 to 14, or what it does. The buffer has 1,536 bytes, 256 for each position.
+pub fn receive(node: Node, buffer: &mut [u8], identifier: u32, data: &[u8], stamp: u32) -> Received
+    ensures { λ r. ⌜ (r ≡ receivedOf node (now (buffer .entry)) identifier (now («data» .entry)) stamp)
+        × (now (buffer .exit) ≡ bufferAfter node (now (buffer .entry)) identifier (now («data» .entry)) stamp) ⌝ }
+{
+    if !is_sound(node) {
+        return Received {
+            node,
+            outcome: Outcome::Refused(Refusal::RulesBroken),
+        };
+    }
+    if buffer.len() != 1536 {
+        return Received {
+            node,
+            outcome: Outcome::Refused(Refusal::RulesBroken),
+        };
+    }
+    let Vehicle::At(own) = Position::trailer(node.own) else {
+        return Received {
+            node,
+            outcome: Outcome::Refused(Refusal::RulesBroken),
+        };
+    };
+    let judged = judge(own, node.unit, identifier, data);
+    let p = place_of(judged);
+    let step = decide(node.receptions[p], judged, data.len(), stamp);
+    store(buffer, step.at, data, step.start, step.count);
+    let reception = step.reception;
+    let outcome = step.outcome;
+    let mut next = node;
+    next.receptions[p] = reception;
+    Received {
+        node: next,
+        outcome,
+    }
+}
+
+impl Outcome {
+    // The flow control that is due.
+    pub fn due(self) -> Due
+        ensures { λ r. ⌜ r ≡ dueOf self ⌝ }
+    {
+        match self {
+            Outcome::Refused(_) => Due::Nothing,
+            Outcome::OverLong { from } => Due::Send {
+                control: Control::Overflow,
+                to: from,
+            },
+            Outcome::Opened { from } => Due::Send {
+                control: Control::Continue,
+                to: from,
+            },
+            Outcome::Taken { from: _ } => Due::Nothing,
+            Outcome::Single {
+                from: _,
+                functional: _,
+                length: _,
+            } => Due::Nothing,
+            Outcome::Train { from: _, length: _ } => Due::Nothing,
+        }
+    }
+
+    pub fn told(self) -> OutcomeTold
+        ensures { λ r. ⌜ r ≡ outcomeTold self ⌝ }
+    {
+        match self {
+            Outcome::Refused(why) => nothing_handed_out(why.number(), 0, 0),
+            Outcome::OverLong { from } => nothing_handed_out(11, from.place(), 2),
+            Outcome::Opened { from } => nothing_handed_out(0, from.place(), 1),
+            Outcome::Taken { from } => nothing_handed_out(0, from.place(), 0),
+            Outcome::Single {
+                from,
+                functional,
+                length,
+            } => OutcomeTold {
+                refusal: 0,
+                handed_out: 1,
+                from: from.place(),
+                functional,
+                start: 2,
+                length,
+                control: 0,
+            },
+            Outcome::Train { from, length } => OutcomeTold {
+                refusal: 0,
+                handed_out: 2,
+                from: from.place(),
+                functional: false,
+                start: region_start(from),
+                length,
+                control: 0,
+            },
+        }
+    }
+}
+
+fn nothing_handed_out(refusal: u8, from: u8, control: u8) -> OutcomeTold
+    ensures { λ r. ⌜ r ≡ nothingTold refusal from control ⌝ }
+{
+    OutcomeTold {
+        refusal,
+        handed_out: 0,
+        from,
+        functional: false,
+        start: 0,
+        length: 0,
+        control,
+    }
+}
+
+fn region_start(position: Position) -> u16
+    ensures { λ r. ⌜ r ≡ 256 * placeOf position ⌝ }
+{
+    256 * (place(position) as u16)
+}

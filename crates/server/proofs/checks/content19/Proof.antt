@@ -1,0 +1,56 @@
+-- `content19` meets its contract: a report has four bytes for each code that is listed.
+use mathlib.Core.Path.{_≡_, refl, sym, ap, _∙_}
+use Prim.Native.Nat.{ℕ, _+_}
+use native.Mathlib.Omega.{arith}
+use borrow.Author.Tests.{lt-ltb, le-ltb}
+use borrow.Author.Needs.{needs}
+use lib.Dec.{eqb}
+use lib.ListN.{length}
+use Rattle.identifiers.proofs.LawsChoice.{taken, passed}
+use Rattle.server.specs.Faults.{countListed}
+use Rattle.server.specs.Requests.{subFunctionOf, maskOf}
+use Rattle.server.specs.Server.{faultsOf, contentOf19}
+use Rattle.server.proofs.LawsFaults.{count-listed-le}
+use Rattle.server.proofs.LawsServer.{length-faults, content-count}
+use Rattle.server.proofs.checks.content19.Statement.{statement}
+use Rattle.server.proofs.checks.content19.Tie as tie
+
+returns : tie.Need-returns
+returns c = sym (content-count _ _ _ _ (sym ((c .before .sub-function .ensures)) ∙ (c .if1 .taken)))
+
+mul-if2 : tie.Need-mul-if2
+mul-if2 c = omega (arith, (c .count-listed .ensures), count-listed-le ((c .before .before .before .before .before .args .statuses) .now) (eqb ((c .before .before .before .sub-function .result)) 0x0A) ((c .before .mask .result)) ((c .before .before .before .before .before .args .count)))
+
+add-if2 : tie.Need-add-if2
+add-if2 c = omega (arith, (c .count-listed .ensures), count-listed-le ((c .before .before .before .before .before .args .statuses) .now) (eqb ((c .before .before .before .sub-function .result)) 0x0A) ((c .before .mask .result)) ((c .before .before .before .before .before .args .count)))
+
+returns-2 : tie.Need-returns-2
+unfolding contentOf19
+returns-2 c =
+    let S = (c .before .before .before .before .before .before .args .statuses) .now in
+    let n = (c .before .before .before .before .before .before .args .count) in
+    let R = (c .before .before .before .before .before .before .args .request) .now in
+    let counted : (c .before .count-listed .result) ≡ countListed S (eqb (subFunctionOf R) 0x0A) (maskOf R) n = (c .before .count-listed .ensures) ∙ ap (λ (s : ℕ). countListed S (eqb s 0x0A) ((c .before .before .mask .result)) n) ((c .before .before .before .before .sub-function .ensures)) ∙ ap (λ (m : ℕ). countListed S (eqb (subFunctionOf R) 0x0A) m n) ((c .before .before .mask .ensures)) in
+    let e = length-faults ((c .before .before .before .before .before .before .args .codes) .now) S n R (λ q. (c .before .before .before .if1 .left) ((c .before .before .before .before .sub-function .ensures) ∙ q)) in
+    taken _ (lt-ltb 255 (3 + length (faultsOf ((c .before .before .before .before .before .before .args .codes) .now) S n R)) (omega (arith, e, counted, (c .if2 .taken)))) refl
+
+returns-3 : tie.Need-returns-3
+unfolding contentOf19
+returns-3 c =
+    let S = (c .before .before .before .before .before .before .args .statuses) .now in
+    let n = (c .before .before .before .before .before .before .args .count) in
+    let R = (c .before .before .before .before .before .before .args .request) .now in
+    let counted : (c .before .count-listed .result) ≡ countListed S (eqb (subFunctionOf R) 0x0A) (maskOf R) n = (c .before .count-listed .ensures) ∙ ap (λ (s : ℕ). countListed S (eqb s 0x0A) ((c .before .before .mask .result)) n) ((c .before .before .before .before .sub-function .ensures)) ∙ ap (λ (m : ℕ). countListed S (eqb (subFunctionOf R) 0x0A) m n) ((c .before .before .mask .ensures)) in
+    let e = length-faults ((c .before .before .before .before .before .before .args .codes) .now) S n R (λ q. (c .before .before .before .if1 .left) ((c .before .before .before .before .sub-function .ensures) ∙ q)) in
+    passed _ (le-ltb 255 (3 + length (faultsOf ((c .before .before .before .before .before .before .args .codes) .now) S n R)) (omega (arith, e, counted, (c .if2 .left)))) refl
+
+pub content19-spec : {M : Type 1} → statement M
+content19-spec = tie.close (tie.spec
+    (λ c κs. search needs)
+    returns
+    (λ c κs. search needs)
+    (λ c κs. search needs)
+    mul-if2
+    add-if2
+    returns-2
+    returns-3)

@@ -1,0 +1,61 @@
+-- `set_status` meets its contract: each return stands at its rung.
+use mathlib.Core.Path.{sym, ap, _∙_}
+use Prim.Native.Nat.{ℕ}
+use native.Mathlib.Omega.{arith}
+use borrow.Author.Tests.{lt-ltb, le-ltb, not-true, not-false}
+use borrow.Author.Needs.{needs}
+use lib.Dec.{ltb}
+use lib.ListN.{set}
+use Rattle.identifiers.proofs.LawsChoice.{taken}
+use Rattle.server.specs.Places.{heldAmong}
+use Rattle.server.specs.Trailer.{soundRecord}
+use Rattle.server.specs.Server.{withStatuses}
+use Rattle.server.proofs.LawsTrailer.{sound-has}
+use Rattle.server.proofs.LawsServer.{setting-1, setting-18, setting-19, setting-set}
+use Rattle.server.specs.Status.{Setting}
+use Rattle.server.proofs.status.set_status.Statement.{statement}
+use Rattle.server.proofs.status.set_status.Tie as tie
+
+returns : tie.Need-returns
+unfolding soundRecord
+returns c =
+    let law = setting-1 ((c .before .before .before .before .before .before .before .args .t1)) ((c .before .before .before .before .before .before .before .args .code)) ((c .before .before .before .before .before .before .before .args .status)) (sym ((c .before .sound .ensures)) ∙ not-true _ ((c .if1 .taken))) in
+    (sym (ap (λ (s : Setting). s .after) law), sym (ap (λ (s : Setting). s .answer) law))
+
+place-requires : tie.Need-place-requires
+unfolding soundRecord
+place-requires c κs = sound-has ((c .before .before .before .before .before .before .before .before .before .args .t1)) (sym ((c .before .before .before .sound .ensures)) ∙ not-false _ ((c .before .before .if1 .left))) .count
+
+returns-2 : tie.Need-returns-2
+unfolding soundRecord heldAmong
+returns-2 c =
+    let law = setting-18 ((c .before .before .before .before .before .before .before .before .before .before .before .args .t1)) ((c .before .before .before .before .before .before .before .before .before .before .before .args .code)) ((c .before .before .before .before .before .before .before .before .before .before .before .args .status)) (sym ((c .before .before .before .before .before .sound .ensures)) ∙ not-false _ ((c .before .before .before .before .if1 .left))) (ap (λ (i : ℕ). ltb i ((c .before .before .before .before .before .before .before .before .before .before .before .args .t1) .count)) (sym ((c .before .place .ensures))) ∙ le-ltb _ _ ((c .if2 .taken))) in
+    (sym (ap (λ (s : Setting). s .after) law), sym (ap (λ (s : Setting). s .answer) law))
+
+returns-3 : tie.Need-returns-3
+unfolding soundRecord heldAmong
+returns-3 c =
+    let law = setting-19 ((c .before .before .before .before .before .before .before .before .before .before .before .before .before .args .t1)) ((c .before .before .before .before .before .before .before .before .before .before .before .before .before .args .code)) ((c .before .before .before .before .before .before .before .before .before .before .before .before .before .args .status)) (sym ((c .before .before .before .before .before .before .before .sound .ensures)) ∙ not-false _ ((c .before .before .before .before .before .before .if1 .left))) (ap (λ (i : ℕ). ltb i ((c .before .before .before .before .before .before .before .before .before .before .before .before .before .args .t1) .count)) (sym ((c .before .before .before .place .ensures))) ∙ lt-ltb _ _ ((c .before .before .if2 .left))) (sym ((c .before .status-within .ensures)) ∙ not-true _ ((c .if3 .taken))) in
+    (sym (ap (λ (s : Setting). s .after) law), sym (ap (λ (s : Setting). s .answer) law))
+
+element-write-after : tie.Need-element-write-after
+unfolding soundRecord
+element-write-after c = omega (arith, sound-has ((c .before .before .before .before .before .before .before .before .before .before .before .before .before .args .t1)) (sym ((c .before .before .before .before .before .before .before .sound .ensures)) ∙ not-false _ ((c .before .before .before .before .before .before .if1 .left))) .count)
+
+returns-4 : tie.Need-returns-4
+unfolding soundRecord heldAmong withStatuses
+returns-4 c =
+    let law = setting-set ((c .before .before .before .before .before .before .before .before .before .before .before .before .before .args .t1)) ((c .before .before .before .before .before .before .before .before .before .before .before .before .before .args .code)) ((c .before .before .before .before .before .before .before .before .before .before .before .before .before .args .status)) (sym ((c .before .before .before .before .before .before .before .sound .ensures)) ∙ not-false _ ((c .before .before .before .before .before .before .if1 .left))) (ap (λ (i : ℕ). ltb i ((c .before .before .before .before .before .before .before .before .before .before .before .before .before .args .t1) .count)) (sym ((c .before .before .before .place .ensures))) ∙ lt-ltb _ _ ((c .before .before .if2 .left))) (sym ((c .before .status-within .ensures)) ∙ not-false _ ((c .if3 .left))) in
+    (ap (λ (i : ℕ). withStatuses ((c .before .before .before .before .before .before .before .before .before .before .before .before .before .args .t1)) (set ((c .before .before .before .before .before .before .before .before .before .before .before .before .before .args .t1) .statuses) i ((c .before .before .before .before .before .before .before .before .before .before .before .before .before .args .status)))) ((c .before .before .before .place .ensures)) ∙ sym (ap (λ (s : Setting). s .after) law), sym (ap (λ (s : Setting). s .answer) law))
+
+pub set-status-spec : {M : Type 1} → statement M
+set-status-spec = tie.close (tie.spec
+    (λ c κs. search needs)
+    returns
+    (λ c. search needs)
+    place-requires
+    returns-2
+    (λ c κs. search needs)
+    returns-3
+    element-write-after
+    returns-4)

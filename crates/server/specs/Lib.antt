@@ -1,0 +1,10 @@
+-- The root of the crate's definitions.
+pub mod Mask
+pub mod Places
+pub mod Trailer
+pub mod Faults
+pub mod DataIdentifiers
+pub mod Requests
+pub mod Server
+pub mod Status
+pub mod Told

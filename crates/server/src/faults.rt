@@ -1,0 +1,131 @@
+// Services 14 and 19: the fault codes held, counted, listed and cleared.
+ghost use mathlib.Core.Path.{_≡_};
+ghost use Prim.Native.Nat.{_+_, _*_, _≤_};
+ghost use lib.ListN.{length};
+ghost use Rattle.identifiers.specs.Bytes.{Puts};
+ghost use Rattle.server.specs.Places.{placeOf};
+ghost use Rattle.server.specs.Faults.{listed, countListed, codeAndStatus, twoBytes, reportOf, groupHeld, inGroup, clearedBelow};
+
+// The place of a code, or count where it is not held.
+pub fn place(codes: &[u32; 63], count: usize, code: u32) -> usize
+    requires { ⌜ count ≤ 63 ⌝ }
+    ensures { λ r. ⌜ r ≡ placeOf (now (codes .entry)) count code ⌝ }
+{
+    let mut i = 0;
+    while i < count {
+        if codes[i] == code {
+            return i;
+        }
+        i += 1;
+    }
+    count
+}
+
+pub fn group_held(codes: &[u32; 63], count: usize, group: u32) -> bool
+    requires { ⌜ count ≤ 63 ⌝ }
+    ensures { λ r. ⌜ r ≡ groupHeld (now (codes .entry)) count group ⌝ }
+{
+    if group == 0xFFFFFF {
+        return true;
+    }
+    place(codes, count, group) < count
+}
+
+fn is_listed(all: bool, mask: u8, status: u8) -> bool
+    ensures { λ r. ⌜ r ≡ listed all mask status ⌝ }
+{
+    all | (status & mask != 0)
+}
+
+pub fn count_listed(statuses: &[u8; 63], all: bool, mask: u8, count: usize) -> usize
+    requires { ⌜ count ≤ 63 ⌝ }
+    ensures { λ r. ⌜ r ≡ countListed (now (statuses .entry)) all mask count ⌝ }
+{
+    let mut n: usize = 0;
+    let mut i = 0;
+    while i < count {
+        if is_listed(all, mask, statuses[i]) {
+            n += 1;
+        }
+        i += 1;
+    }
+    n
+}
+
+// Writes a number in two bytes, high first, and says where the next byte goes.
+pub fn put_two(response: &mut [u8], at: usize, number: u16) -> usize
+    requires { ⌜ at + 2 ≤ length (now response) ⌝ }
+    ensures { λ r. ⌜ Puts (now (response .entry)) at (twoBytes number) r (now (response .exit)) ⌝ }
+{
+    let low = at + 1;
+    response[at] = (number / 256 % 256) as u8;
+    response[low] = (number % 256) as u8;
+    low + 1
+}
+
+fn put_code_and_status(response: &mut [u8], at: usize, code: u32, status: u8) -> usize
+    requires { ⌜ at + 4 ≤ length (now response) ⌝ }
+    ensures { λ r. ⌜ Puts (now (response .entry)) at (codeAndStatus code status) r (now (response .exit)) ⌝ }
+{
+    let middle = at + 1;
+    let low = middle + 1;
+    let last = low + 1;
+    response[at] = (code / 65536 % 256) as u8;
+    response[middle] = (code / 256 % 256) as u8;
+    response[low] = (code % 256) as u8;
+    response[last] = status;
+    last + 1
+}
+
+// Writes code and status of each listed one, in order, and says where they end.
+pub fn put_report<'a>(
+    codes: &'a [u32; 63],
+    statuses: &'a [u8; 63],
+    all: bool,
+    mask: u8,
+    count: usize,
+    response: &mut [u8],
+    start: usize,
+) -> usize
+    requires { ⌜ (count ≤ 63) × (start + 4 * count ≤ length (now response)) ⌝ }
+    ensures { λ r. ⌜ Puts (now (response .entry)) start (reportOf (now (codes .entry)) (now (statuses .entry)) all mask count) r (now (response .exit)) ⌝ }
+{
+    let mut at = start;
+    let mut i = 0;
+    while i < count {
+        let status = statuses[i];
+        if is_listed(all, mask, status) {
+            at = put_code_and_status(response, at, codes[i], status);
+        }
+        i += 1;
+    }
+    at
+}
+
+fn in_group(group: u32, code: u32) -> bool
+    ensures { λ r. ⌜ r ≡ inGroup group code ⌝ }
+{
+    (group == 0xFFFFFF) | (code == group)
+}
+
+// The statuses, with those of the group as given.
+pub fn cleared(
+    codes: &[u32; 63],
+    statuses: [u8; 63],
+    group: u32,
+    status: u8,
+    count: usize,
+) -> [u8; 63]
+    requires { ⌜ count ≤ 63 ⌝ }
+    ensures { λ r. ⌜ r ≡ clearedBelow (now (codes .entry)) statuses group status count ⌝ }
+{
+    let mut after = statuses;
+    let mut i = 0;
+    while i < count {
+        if in_group(group, codes[i]) {
+            after[i] = status;
+        }
+        i += 1;
+    }
+    after
+}

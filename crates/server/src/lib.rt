@@ -1,0 +1,27 @@
+// The server: the trailer record, and services 14, 19, 22 and 3E over it.
+mod answers;
+mod checks;
+mod data_identifiers;
+mod faults;
+mod lent;
+mod mask;
+mod requests;
+mod serving;
+mod status;
+mod trailer;
+
+pub use lent::serve_lent;
+pub use lent::set_status_lent;
+pub use mask::mask_kept;
+pub use serving::Answer;
+pub use serving::AnswerTold;
+pub use serving::Served;
+pub use serving::serve;
+pub use status::StatusAnswer;
+pub use status::StatusAnswerTold;
+pub use status::StatusSet;
+pub use status::set_status;
+pub use trailer::RecordChecked;
+pub use trailer::RecordCheckedTold;
+pub use trailer::TrailerRecord;
+pub use trailer::check;

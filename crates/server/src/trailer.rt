@@ -1,0 +1,158 @@
+// The trailer record, and the test of its rules: each rule is one loop over one array.
+use crate::mask::mask_kept;
+use identifiers::Refusal;
+ghost use mathlib.Core.Path.{_≡_};
+ghost use Prim.Native.Nat.{_≤_};
+ghost use Rattle.server.specs.Trailer.{ascending, codesBelow, statusWithin, statusesWithin, lengthsWithin, soundFields, checkedAs};
+ghost use Rattle.server.specs.Told.{checkedTold};
+
+// The places past count, past held, and past a datum's length are free. Each identifier has 32 bytes of room.
+#[repr(C)]
+pub struct TrailerRecord {
+    pub codes: [u32; 63],
+    pub statuses: [u8; 63],
+    pub count: u8,
+    pub availability: u8,
+    pub identifiers: [u16; 16],
+    pub lengths: [u8; 16],
+    pub bytes: [u8; 512],
+    pub held: u8,
+}
+
+pub enum RecordChecked {
+    Sound,
+    Refused(Refusal),
+}
+
+// The check's answer in numbers: the refusal, 0 for none.
+#[repr(C)]
+pub struct RecordCheckedTold {
+    pub refusal: u8,
+}
+
+fn codes_below(codes: &[u32; 63], count: usize) -> bool
+    requires { ⌜ count ≤ 63 ⌝ }
+    ensures { λ r. ⌜ r ≡ codesBelow (now (codes .entry)) count ⌝ }
+{
+    let mut kept = true;
+    let mut i = 0;
+    while i < count {
+        kept = kept & (codes[i] < 0xFFFFFF);
+        i += 1;
+    }
+    kept
+}
+
+fn codes_ascend(codes: &[u32; 63], count: usize) -> bool
+    requires { ⌜ count ≤ 63 ⌝ }
+    ensures { λ r. ⌜ r ≡ ascending (now (codes .entry)) count ⌝ }
+{
+    let mut kept = true;
+    let mut i = 0;
+    while i + 1 < count {
+        kept = kept & (codes[i] < codes[i + 1]);
+        i += 1;
+    }
+    kept
+}
+
+pub fn status_within(availability: u8, status: u8) -> bool
+    ensures { λ r. ⌜ r ≡ statusWithin availability status ⌝ }
+{
+    status & availability == status
+}
+
+fn statuses_within(statuses: &[u8; 63], availability: u8, count: usize) -> bool
+    requires { ⌜ count ≤ 63 ⌝ }
+    ensures { λ r. ⌜ r ≡ statusesWithin (now (statuses .entry)) availability count ⌝ }
+{
+    let mut kept = true;
+    let mut i = 0;
+    while i < count {
+        kept = kept & status_within(availability, statuses[i]);
+        i += 1;
+    }
+    kept
+}
+
+fn identifiers_ascend(identifiers: &[u16; 16], held: usize) -> bool
+    requires { ⌜ held ≤ 16 ⌝ }
+    ensures { λ r. ⌜ r ≡ ascending (now (identifiers .entry)) held ⌝ }
+{
+    let mut kept = true;
+    let mut k = 0;
+    while k + 1 < held {
+        kept = kept & (identifiers[k] < identifiers[k + 1]);
+        k += 1;
+    }
+    kept
+}
+
+fn lengths_within(lengths: &[u8; 16], held: usize) -> bool
+    requires { ⌜ held ≤ 16 ⌝ }
+    ensures { λ r. ⌜ r ≡ lengthsWithin (now (lengths .entry)) held ⌝ }
+{
+    let mut kept = true;
+    let mut k = 0;
+    while k < held {
+        kept = kept & ((1 <= lengths[k]) & (lengths[k] <= 32));
+        k += 1;
+    }
+    kept
+}
+
+pub fn sound<'a>(
+    codes: &'a [u32; 63],
+    statuses: &'a [u8; 63],
+    count: u8,
+    availability: u8,
+    identifiers: &'a [u16; 16],
+    lengths: &'a [u8; 16],
+    held: u8,
+) -> bool
+    ensures { λ r. ⌜ r ≡ soundFields (now (codes .entry)) (now (statuses .entry)) count availability (now (identifiers .entry)) (now (lengths .entry)) held ⌝ }
+{
+    if 63 < count {
+        return false;
+    }
+    if 16 < held {
+        return false;
+    }
+    mask_kept(availability)
+        & codes_below(codes, count as usize)
+        & codes_ascend(codes, count as usize)
+        & statuses_within(statuses, availability, count as usize)
+        & identifiers_ascend(identifiers, held as usize)
+        & lengths_within(lengths, held as usize)
+}
+
+// Does a record keep its rules: refusal 1 where it does not.
+pub fn check(record: TrailerRecord) -> RecordChecked
+    ensures { λ r. ⌜ r ≡ checkedAs «record» ⌝ }
+{
+    if sound(
+        &record.codes,
+        &record.statuses,
+        record.count,
+        record.availability,
+        &record.identifiers,
+        &record.lengths,
+        record.held,
+    ) {
+        return RecordChecked::Sound;
+    }
+    RecordChecked::Refused(Refusal::RulesBroken)
+}
+
+impl RecordChecked {
+    pub fn told(self) -> RecordCheckedTold
+        ensures { λ r. ⌜ r ≡ checkedTold self ⌝ }
+    {
+        match self {
+            RecordChecked::Sound => RecordCheckedTold { refusal: 0 },
+            RecordChecked::Refused(why) => RecordCheckedTold {
+                refusal: why.number(),
+            },
+        }
+    }
+}

@@ -1,0 +1,86 @@
+-- Laws of the whole text: what an accepted and a refused input print, and that it fits the page.
+use mathlib.Core.Path.{_≡_, refl, sym, ap, _∙_}
+use mathlib.Core.Bool.{Bool, true, false}
+use mathlib.Core.List.{List, [], _∷_, _++_}
+use Prim.Native.Nat.{ℕ, zero, suc, _+_, _*_, _/_, _%_, _≤_}
+use native.Mathlib.Omega.{arith}
+use lib.Dec.{ltb}
+use lib.ListN.{length, length-append, take, drop}
+use Rattle.identifiers.specs.Below.{listBelow}
+use Rattle.identifiers.specs.Bytes.{Puts}
+use Rattle.identifiers.specs.Choice.{pick}
+use Rattle.identifiers.specs.Refusals.{numberOf}
+use Rattle.identifiers.proofs.LawsBytes.{drop-written, keeps-length, puts-whole}
+use Rattle.sheet.specs.Basis.{basisOf}
+use Rattle.sheet.specs.Judge.{judged}
+use Rattle.sheet.specs.Readings.{readingsIn, readingOf}
+use Rattle.sheet.specs.Text.{decimalIn, hex, header, wordOf, lineOf, refusalLine}
+use Rattle.sheet.specs.Printed.{linesOf, printedAs, printed}
+use Rattle.identifiers.specs.declared.refusal.Refusal.{Refusal}
+use Rattle.sheet.specs.declared.answer.Judged.{Judged}
+use Rattle.sheet.specs.declared.answer.Judged.the-variants.{Accepted, Refused}
+use Rattle.sheet.specs.declared.basis.Basis.{Basis}
+use Rattle.sheet.specs.declared.basis.Basis.the-variants.{None, Full, Part}
+use Rattle.sheet.specs.declared.reading.Reading.{Reading}
+use Rattle.sheet.proofs.LawsJudge.{accepted-short}
+
+pub printed-accepted : (s : List ℕ) → judged s ≡ Accepted → printed s ≡ header ++ linesOf s (readingsIn s)
+unfolding printed printedAs
+printed-accepted s e = rw e
+
+pub printed-refused : (s : List ℕ) (why : Refusal) (o : ℕ) → judged s ≡ Refused why o → printed s ≡ refusalLine (numberOf why) o
+unfolding printed printedAs
+printed-refused s why o e = rw e
+
+-- ---- how long the parts of a text are
+either-length : (t : Bool) (x y : List ℕ) (n : ℕ) → length x ≤ n → length y ≤ n → length (pick t x y) ≤ n
+unfolding pick
+either-length true x y n a b = a
+either-length false x y n a b = b
+
+length-decimal : (places n : ℕ) → length (decimalIn places n) ≤ places
+unfolding decimalIn
+length-decimal zero n = omega arith
+length-decimal (suc p) n =
+    either-length (ltb n 10) _ _ (suc p) (omega arith) (omega (arith, length-append (decimalIn p (n / 10)) ((48 + n % 10) ∷ []), length-decimal p (n / 10)))
+
+length-word : (b : Basis) → length (wordOf b) ≡ 4
+unfolding wordOf
+length-word None = refl
+length-word Full = refl
+length-word Part = refl
+
+length-line : (r : Reading) → length (lineOf r) ≤ 23
+unfolding lineOf hex
+length-line r = simp length-append (omega (arith, length-decimal 5 (r .position), length-decimal 5 (r .count), length-word (basisOf (r .mask) (r .available))))
+
+length-lines : (f : ℕ → List ℕ) (b n : ℕ) → ((k : ℕ) → length (f k) ≤ b) → length (listBelow f n) ≤ b * n
+unfolding listBelow
+length-lines f b zero h = omega arith
+length-lines f b (suc n) h = omega (arith, length-append (listBelow f n) (f n), length-lines f b n h, h n)
+
+length-refusal : (n o : ℕ) → length (refusalLine n o) ≤ 23
+unfolding refusalLine
+length-refusal n o = simp length-append (omega (arith, length-decimal 5 n, length-decimal 5 o))
+
+-- ---- the page
+pub printed-fits : (s : List ℕ) → length (printed s) ≤ 88701
+unfolding readingsIn
+printed-fits s = by-answer (judged s) refl
+  where
+    by-answer : (v : Judged) → judged s ≡ v → length (printed s) ≤ 88701
+    by-answer Accepted e =
+        omega (arith, ap length (printed-accepted s e), length-append header (linesOf s (readingsIn s)), length-lines (λ k. lineOf (readingOf s k)) 23 (readingsIn s) (λ k. length-line (readingOf s k)), accepted-short s e)
+    by-answer (Refused why o) e = omega (arith, ap length (printed-refused s why o e), length-refusal (numberOf why) o)
+
+-- the place after the last byte lies in the page
+pub print-fits : {page after : List ℕ} {end : ℕ} (s : List ℕ) → length page ≡ 88701 → Puts page 0 (printed s) end after → end ≤ length after
+print-fits s h p = omega (arith, p .ends, printed-fits s, keeps-length p)
+
+-- and the page up to there is the text, no more and no less
+pub print-whole : {page after : List ℕ} {end : ℕ} (s : List ℕ) → length page ≡ 88701 → Puts page 0 (printed s) end after → take end after ≡ printed s
+print-whole s h p = puts-whole (omega (arith, printed-fits s)) p
+
+pub print-rest : {page after : List ℕ} {end : ℕ} (s : List ℕ) → Puts page 0 (printed s) end after → drop end after ≡ drop end page
+print-rest {page} {after} s p =
+    ap (λ (n : ℕ). drop n after) (p .ends) ∙ ap (drop (0 + length (printed s))) (p .holds) ∙ drop-written page 0 (printed s) ∙ ap (λ (n : ℕ). drop n page) (sym (p .ends))

@@ -1,0 +1,44 @@
+-- Document 01's example and the empty input, and an input at each edge of the refusals, computed by the definitions that the contracts
+-- cite.
+use mathlib.Core.Path.{_≡_, refl}
+use mathlib.Core.List.{List, [], _∷_, _++_}
+use Prim.Native.Nat.{ℕ}
+use Rattle.identifiers.specs.Choice.{both, either, pick}
+use Rattle.identifiers.specs.Below.{listBelow}
+use Rattle.identifiers.specs.Refusals.{refusal}
+use Rattle.server.specs.Mask.{maskKept}
+use Rattle.sheet.specs.Basis.{basisOf}
+use Rattle.sheet.specs.Fields.{cutShort, sizeOf, wrongForm, positionKept, responseKept, contentKept, fieldJudged}
+use Rattle.sheet.specs.Judge.{fieldOffset, fieldTag, fieldAt, fieldsBegun, orNext, firstRefused, judged}
+use Rattle.sheet.specs.Readings.{readingsIn, readingOf}
+use Rattle.sheet.specs.Text.{decimalIn, digit, hex, header, wordOf, lineOf, refusalLine}
+use Rattle.sheet.specs.Printed.{printedAs, printed}
+use Rattle.sheet.specs.declared.answer.Judged.the-variants.{Refused}
+
+abbrev first : List ℕ
+first = 0x01 ∷ 0x00 ∷ 0x01 ∷ 0x01 ∷ 0x02 ∷ 0x00 ∷ 0x01 ∷ 0x08 ∷ 0x03 ∷ 0x00 ∷ 0x06 ∷ 0x59 ∷ 0x01 ∷ 0x7F ∷ 0x03 ∷ 0x00 ∷ 0x02 ∷ []
+
+abbrev second : List ℕ
+second = 0x01 ∷ 0x00 ∷ 0x01 ∷ 0x02 ∷ 0x02 ∷ 0x00 ∷ 0x01 ∷ 0x8C ∷ 0x03 ∷ 0x00 ∷ 0x06 ∷ 0x59 ∷ 0x01 ∷ 0x4B ∷ 0x03 ∷ 0x00 ∷ 0x05 ∷ []
+
+pub record Worked : Type 0 where
+  -- "1 08 7F 2 full" and "2 8C 4B 5 part" under the header
+  pub example : printed (first ++ second)
+      ≡ header
+      ++ (49 ∷ 32 ∷ 48 ∷ 56 ∷ 32 ∷ 55 ∷ 70 ∷ 32 ∷ 50 ∷ 32 ∷ 102 ∷ 117 ∷ 108 ∷ 108 ∷ 10 ∷ [])
+      ++ (50 ∷ 32 ∷ 56 ∷ 67 ∷ 32 ∷ 52 ∷ 66 ∷ 32 ∷ 53 ∷ 32 ∷ 112 ∷ 97 ∷ 114 ∷ 116 ∷ 10 ∷ [])
+  -- "Empty input prints the header"
+  pub empty : printed [] ≡ header
+  -- a stray byte after a reading, the end between two fields, and a length that no byte fills under a wrong tag
+  pub stray : judged (first ++ (0x01 ∷ [])) ≡ Refused (refusal 22) 17
+  pub between : judged (0x01 ∷ 0x00 ∷ 0x01 ∷ 0x01 ∷ []) ≡ Refused (refusal 22) 4
+  pub unfilled : judged (0x09 ∷ 0xFF ∷ 0xFF ∷ 0x01 ∷ []) ≡ Refused (refusal 22) 0
+  -- the mask asked where the position is due; a position 6 before an end that is too early
+  pub tag : judged (first ++ (0x02 ∷ 0x00 ∷ 0x01 ∷ 0x01 ∷ [])) ≡ Refused (refusal 23) 17
+  pub position : judged (0x01 ∷ 0x00 ∷ 0x01 ∷ 0x06 ∷ []) ≡ Refused (refusal 24) 0
+  -- "refused 22 at 17"
+  pub refused : printed (first ++ (0x01 ∷ [])) ≡ 114 ∷ 101 ∷ 102 ∷ 117 ∷ 115 ∷ 101 ∷ 100 ∷ 32 ∷ 50 ∷ 50 ∷ 32 ∷ 97 ∷ 116 ∷ 32 ∷ 49 ∷ 55 ∷ 10 ∷ []
+
+pub worked : Worked
+unfolding both either pick listBelow maskKept basisOf cutShort sizeOf wrongForm positionKept responseKept contentKept fieldJudged fieldOffset fieldTag fieldAt fieldsBegun orNext firstRefused judged readingsIn readingOf decimalIn digit hex wordOf lineOf refusalLine printedAs printed
+worked = record { example = refl; empty = refl; stray = refl; between = refl; unfilled = refl; tag = refl; position = refl; refused = refl }

@@ -1,0 +1,17 @@
+-- `Judged::told` meets its contract: the numbers of each case.
+use mathlib.Core.Path.{sym, ap}
+use Rattle.sheet.specs.Judge.{judgedTold}
+use borrow.Author.Needs.{needs}
+use Rattle.sheet.proofs.answer.Judged.told.Statement.{statement}
+use Rattle.sheet.proofs.answer.Judged.told.Tie as tie
+
+returns : tie.Need-returns
+unfolding judgedTold
+returns c = ap judgedTold (sym (c .enum-told .given .1))
+
+returns-2 : tie.Need-returns-2
+unfolding judgedTold
+returns-2 c = rw (c .number .ensures) (ap judgedTold (sym (c .before .before .self .given .1)))
+
+pub told-spec : {M : Type 1} → statement M
+told-spec = tie.close (tie.spec (λ c. search needs) (λ c. search needs) (λ c κs. search needs) returns returns-2)

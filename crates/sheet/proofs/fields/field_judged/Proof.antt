@@ -1,0 +1,53 @@
+-- `field_judged` meets its contract: each return stands at its rung of `fieldJudged`.
+use mathlib.Core.Path.{sym, _∙_}
+use borrow.Author.Needs.{needs}
+use native.Mathlib.Omega.{arith}
+use Rattle.sheet.proofs.LawsFields.{uncut-head, content-stands, field-22, field-23, field-24, field-accepted}
+use Rattle.sheet.proofs.fields.field_judged.Statement.{statement}
+use Rattle.sheet.proofs.fields.field_judged.Tie as tie
+
+returns : tie.Need-returns
+returns c = sym (field-22 _ _ _ (sym (c .before .cut-short .ensures) ∙ (c .if1 .taken)))
+
+wrong-form-requires : tie.Need-wrong-form-requires
+wrong-form-requires c κs = sym (c .before .cut-short .ensures) ∙ (c .if1 .left)
+
+returns-2 : tie.Need-returns-2
+returns-2 c = sym (field-23 _ _ _ (sym (c .before .before .before .cut-short .ensures) ∙ (c .before .before .if1 .left)) (sym (c .before .wrong-form .ensures) ∙ (c .if2 .taken)))
+
+add-content-kept : tie.Need-add-content-kept
+add-content-kept c = omega (arith, uncut-head _ _ (sym (c .before .before .before .cut-short .ensures) ∙ (c .before .before .if1 .left)))
+
+content-kept-requires : tie.Need-content-kept-requires
+content-kept-requires c κs = content-stands _ _ _ (sym (c .before .before .before .cut-short .ensures) ∙ (c .before .before .if1 .left)) (sym (c .before .wrong-form .ensures) ∙ (c .if2 .left))
+
+returns-3 : tie.Need-returns-3
+returns-3 c =
+    let at1 = c .before in
+    let at2 = at1 .before in
+    let at3 = at2 .before in
+    let at4 = at3 .before in
+    let at5 = at4 .before in
+    sym (field-accepted _ _ _ (sym (at5 .cut-short .ensures) ∙ (at4 .if1 .left)) (sym (at3 .wrong-form .ensures) ∙ (at2 .if2 .left)) (sym (at1 .content-kept .ensures) ∙ (c .if3 .taken)))
+
+returns-4 : tie.Need-returns-4
+returns-4 c =
+    let at1 = c .before in
+    let at2 = at1 .before in
+    let at3 = at2 .before in
+    let at4 = at3 .before in
+    let at5 = at4 .before in
+    sym (field-24 _ _ _ (sym (at5 .cut-short .ensures) ∙ (at4 .if1 .left)) (sym (at3 .wrong-form .ensures) ∙ (at2 .if2 .left)) (sym (at1 .content-kept .ensures) ∙ (c .if3 .left)))
+
+pub field-judged-spec : {M : Type 1} → statement M
+field-judged-spec =
+    tie.close
+    (tie.spec
+    (λ c κs. search needs)
+    returns
+    wrong-form-requires
+    returns-2
+    add-content-kept
+    content-kept-requires
+    returns-3
+    returns-4)

@@ -1,0 +1,48 @@
+-- `wrong_form` meets its contract: the tag first, then the length; both stand in an input that is not cut short.
+use mathlib.Core.Path.{refl, ap}
+use mathlib.Core.Bool.{not}
+use borrow.Author.Needs.{needs}
+use native.Mathlib.Omega.{arith}
+use borrow.Author.Tests.{eq-eqb, ne-eqb}
+use Rattle.identifiers.proofs.LawsChoice.{left-holds, right-decides}
+use Rattle.sheet.proofs.LawsFields.{uncut-head}
+use Rattle.sheet.specs.Fields.{wrongForm}
+use Rattle.sheet.proofs.fields.wrong_form.Statement.{statement}
+use Rattle.sheet.proofs.fields.wrong_form.Tie as tie
+
+shared-slice-read-if1 : tie.Need-shared-slice-read-if1
+shared-slice-read-if1 c = omega (arith, uncut-head _ _ (c .before .before .pre))
+
+returns : tie.Need-returns
+unfolding wrongForm
+returns c = left-holds _ (ap not (ne-eqb _ _ (c .if1 .taken)))
+
+add-high : tie.Need-add-high
+add-high c = omega (arith, uncut-head _ _ (c .before .before .before .pre))
+
+shared-slice-read-pair : tie.Need-shared-slice-read-pair
+shared-slice-read-pair c = omega (arith, uncut-head _ _ (c .before .before .before .before .pre))
+
+add-pair : tie.Need-add-pair
+add-pair c = omega (arith, uncut-head _ _ (c .before .before .before .before .pre))
+
+shared-slice-read-pair-2 : tie.Need-shared-slice-read-pair-2
+shared-slice-read-pair-2 c = omega (arith, uncut-head _ _ (c .before .before .before .before .before .pre))
+
+returns-2 : tie.Need-returns-2
+unfolding wrongForm
+returns-2 c = rw ((c .before .pair .ensures), (c .size-of .ensures)) (right-decides (ap not (eq-eqb _ _ (c .before .before .before .before .if1 .left))) refl)
+
+pub wrong-form-spec : {M : Type 1} → statement M
+wrong-form-spec =
+    tie.close
+    (tie.spec
+    shared-slice-read-if1
+    returns
+    add-high
+    shared-slice-read-pair
+    add-pair
+    shared-slice-read-pair-2
+    (λ c κs. search needs)
+    (λ c κs. search needs)
+    returns-2)

@@ -1,0 +1,41 @@
+-- `put_lines` meets its contract: after n turns the lines of the first n readings stand in the page.
+use mathlib.Core.Path.{_≡_, ap}
+use Prim.Native.Nat.{_+_, _*_, _-_, _≤_}
+use borrow.Author.Needs.{needs}
+use native.Mathlib.Omega.{arith}
+use Rattle.identifiers.specs.Bytes.{Puts}
+use Rattle.identifiers.proofs.LawsBelow.{list-none}
+use Rattle.identifiers.proofs.LawsBytes.{puts-none, turn}
+use Rattle.sheet.specs.Text.{lineOf}
+use Rattle.sheet.specs.Printed.{linesOf}
+use Rattle.sheet.proofs.printing.put_lines.Statement.{statement}
+use Rattle.sheet.proofs.printing.put_lines.Tie as tie
+
+abbrev Inv-loop : tie.InvT-loop
+Inv-loop page₀ start input readings at₀ number₀ page at number = (number ≤ readings) × ((at ≤ start + 23 * number) × Puts page₀ start (linesOf input number) at page)
+
+abbrev μ-loop : tie.MeasureT-loop
+μ-loop page₀ start input readings at₀ number₀ page at number = readings - number
+
+loop-holds : tie.Need-loop-holds Inv-loop μ-loop
+loop-holds c = (search needs, (omega arith, rw (list-none _) (puts-none _ _)))
+
+loop-again : tie.Need-loop-again Inv-loop μ-loop
+loop-again c = (search needs, (omega (arith, (c .put-line .ensures .0)), turn _ _ (c .before .before .before .before .loop .inv .1 .1) (ap lineOf (c .before .reading-of .ensures)) (c .put-line .ensures .1)))
+
+returns : tie.Need-returns Inv-loop μ-loop
+returns c = let e : (c .before .before .before .args .readings) ≡ (c .before .loop .number) = omega arith in rw e (c .before .loop .inv .1 .1)
+
+pub put-lines-spec : {M : Type 1} → statement M
+put-lines-spec =
+    tie.close
+    (tie.spec
+    Inv-loop
+    μ-loop
+    loop-holds
+    (λ c κs. search needs)
+    (λ c κs. search needs)
+    (λ c. search needs)
+    (λ c. search needs)
+    loop-again
+    returns)

@@ -1,0 +1,27 @@
+-- `reading_of` meets its contract: the bytes at the places that `readingOf` names.
+use borrow.Author.Needs.{needs}
+use Rattle.sheet.specs.Readings.{readingOf}
+use Rattle.sheet.proofs.reading.reading_of.Statement.{statement}
+use Rattle.sheet.proofs.reading.reading_of.Tie as tie
+
+returns : tie.Need-returns
+unfolding readingOf
+returns c = rw (c .pair .ensures)
+
+pub reading-of-spec : {M : Type 1} → statement M
+reading-of-spec =
+    tie.close
+    (tie.spec
+    (λ c. search needs)
+    (λ c. search needs)
+    (λ c. search needs)
+    (λ c. search needs)
+    (λ c. search needs)
+    (λ c. search needs)
+    (λ c. search needs)
+    (λ c. search needs)
+    (λ c. search needs)
+    (λ c. search needs)
+    (λ c. search needs)
+    (λ c κs. search needs)
+    returns)

@@ -1,0 +1,2 @@
+-- The program's laws, which belong to no one function.
+pub mod LawsCases
