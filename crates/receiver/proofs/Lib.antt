@@ -1,4 +1,5 @@
 -- The crate's laws, which belong to no one function, and the theorems of demand 3.
+pub mod LawsNodes
 pub mod LawsPieces
 pub mod LawsFrames
 pub mod LawsSteps
@@ -13,5 +14,6 @@ pub mod LawsOwn
 pub mod LawsCuts
 pub mod LawsReadBack
 pub mod LawsSent
+pub mod OneFrame
 pub mod Examples
 pub mod Demand3

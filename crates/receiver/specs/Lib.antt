@@ -8,3 +8,4 @@ pub mod Cuts
 pub mod Sequences
 pub mod Runs
 pub mod Terms
+pub mod Changes
