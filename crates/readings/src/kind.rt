@@ -13,60 +13,76 @@ pub struct Kind {
 }
 
 impl Kind {
+    const GEAR: Kind = Kind {
+        bytes: 1,
+        divisor: 1,
+        below: 125,
+        last: 250,
+    };
+
+    const PERCENT_TORQUE: Kind = Kind {
+        bytes: 1,
+        divisor: 1,
+        below: 125,
+        last: 250,
+    };
+
+    const PERCENT_LOAD: Kind = Kind {
+        bytes: 1,
+        divisor: 1,
+        below: 0,
+        last: 125,
+    };
+
+    const SPEED_LIMIT: Kind = Kind {
+        bytes: 1,
+        divisor: 1,
+        below: 0,
+        last: 250,
+    };
+
+    const VEHICLE_SPEED: Kind = Kind {
+        bytes: 2,
+        divisor: 256,
+        below: 0,
+        last: 64255,
+    };
+
+    const ENGINE_SPEED: Kind = Kind {
+        bytes: 2,
+        divisor: 8,
+        below: 0,
+        last: 64255,
+    };
+
+    const REFERENCE_TORQUE: Kind = Kind {
+        bytes: 2,
+        divisor: 1,
+        below: 0,
+        last: 64255,
+    };
+
+    const AMBIENT_TEMPERATURE: Kind = Kind {
+        bytes: 2,
+        divisor: 32,
+        below: 273,
+        last: 64255,
+    };
+
     // The row of a kind 0 to 7.
     pub fn row(kind: u8) -> Kind
         requires { ⌜ kind ≤ 7 ⌝ }
         ensures { λ r. ⌜ r ≡ kindOf kind ⌝ }
     {
         match kind {
-            0 => Kind {
-                bytes: 1,
-                divisor: 1,
-                below: 125,
-                last: 250,
-            },
-            1 => Kind {
-                bytes: 1,
-                divisor: 1,
-                below: 125,
-                last: 250,
-            },
-            2 => Kind {
-                bytes: 1,
-                divisor: 1,
-                below: 0,
-                last: 125,
-            },
-            3 => Kind {
-                bytes: 1,
-                divisor: 1,
-                below: 0,
-                last: 250,
-            },
-            4 => Kind {
-                bytes: 2,
-                divisor: 256,
-                below: 0,
-                last: 64255,
-            },
-            5 => Kind {
-                bytes: 2,
-                divisor: 8,
-                below: 0,
-                last: 64255,
-            },
-            6 => Kind {
-                bytes: 2,
-                divisor: 1,
-                below: 0,
-                last: 64255,
-            },
-            _ => Kind {
-                bytes: 2,
-                divisor: 32,
-                below: 273,
-                last: 64255,
-            },
+            0 => Kind::GEAR,
+            1 => Kind::PERCENT_TORQUE,
+            2 => Kind::PERCENT_LOAD,
+            3 => Kind::SPEED_LIMIT,
+            4 => Kind::VEHICLE_SPEED,
+            5 => Kind::ENGINE_SPEED,
+            6 => Kind::REFERENCE_TORQUE,
+            _ => Kind::AMBIENT_TEMPERATURE,
         }
     }
 }

@@ -10,20 +10,26 @@ use Rattle.countsheet.proofs.main.Statement.{statement}
 use Rattle.countsheet.proofs.main.Tie as tie
 
 array-share-prefix-input : tie.Need-array-share-prefix-input
-array-share-prefix-input c = within-bytes _ _ _ (c .before .n .given .1) (c .before .before .before .before .read-input .ensures)
+array-share-prefix-input c =
+    let at-read-input = c .before .before .before .before in
+    within-bytes _ _ _ (c .before .n .given .1) (at-read-input .read-input .ensures)
 
 slice-aggregate-print : tie.Need-slice-aggregate-print
-slice-aggregate-print c = sym (length-take-le _ _ (within-bytes _ _ _ (c .before .before .n .given .1) (c .before .before .before .before .before .read-input .ensures)))
+slice-aggregate-print c =
+    let at-read-input = c .before .before .before .before .before in
+    sym (length-take-le _ _ (within-bytes _ _ _ (c .before .before .n .given .1) (at-read-input .read-input .ensures)))
 
 array-share-prefix-input-2 : tie.Need-array-share-prefix-input-2
 array-share-prefix-input-2 c =
-    let at1 = c .before .before .before .before in
+    let at-before = c .before .before .before in
+    let at1 = at-before .before in
     let at2 = at1 .before .before .before in
     within-bytes _ _ _ (at1 .n .given .1) (at2 .read-input .ensures)
 
 slice-aggregate-send : tie.Need-slice-aggregate-send
 slice-aggregate-send c =
-    let at1 = c .before .before .before .before .before in
+    let at-before = c .before .before .before .before in
+    let at1 = at-before .before in
     let at2 = at1 .before .before .before in
     sym (length-take-le _ _ (within-bytes _ _ _ (at1 .n .given .1) (at2 .read-input .ensures)))
 

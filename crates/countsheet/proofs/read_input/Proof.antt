@@ -25,12 +25,15 @@ returns c = failed-within _
 
 same-length-2 : tie.Need-same-length-2 Inv-loop μ-loop
 same-length-2 c =
-    let at1 = c .before .before .before .before .before in
+    let at-before = c .before .before .before .before in
+    let at1 = at-before .before in
     let at2 = at1 .before .before .before .before in
     (at1 .buffer .given .1) ∙ (at2 .loop .inv .1)
 
 returns-2 : tie.Need-returns-2 Inv-loop μ-loop
-returns-2 c = bytes-within _ _ (omega (arith, (c .before .before .before .before .before .buffer .given .1)))
+returns-2 c =
+    let at-buffer = c .before .before .before .before .before in
+    bytes-within _ _ (omega (arith, (at-buffer .buffer .given .1)))
 
 add-at : tie.Need-add-at Inv-loop μ-loop
 add-at c =

@@ -16,7 +16,9 @@ slice-aggregate-lines : tie.Need-slice-aggregate-lines
 slice-aggregate-lines c = sym (length-take-le _ _ (print-fits _ (length-replicate {A = ℕ} 88701 0) (c .before .print .ensures)))
 
 array-share-prefix-page-2 : tie.Need-array-share-prefix-page-2
-array-share-prefix-page-2 c = le-trans (c .if1 .taken) (print-fits _ (length-replicate {A = ℕ} 88701 0) (c .before .before .before .before .before .before .before .before .before .print .ensures))
+array-share-prefix-page-2 c =
+    let at-print = c .before .before .before .before .before .before .before .before .before in
+    le-trans (c .if1 .taken) (print-fits _ (length-replicate {A = ℕ} 88701 0) (at-print .print .ensures))
 
 slice-aggregate-say-3 : tie.Need-slice-aggregate-say-3
 slice-aggregate-say-3 c =
@@ -25,7 +27,9 @@ slice-aggregate-say-3 c =
     sym (length-take-le _ _ (le-trans (at1 .if1 .taken) (print-fits _ (length-replicate {A = ℕ} 88701 0) (at2 .print .ensures))))
 
 part-say-end : tie.Need-part-say-end
-part-say-end c = print-fits _ (length-replicate {A = ℕ} 88701 0) (c .before .before .before .before .before .before .before .before .before .before .before .print .ensures)
+part-say-end c =
+    let at-print = c .before .before .before .before .before .before .before .before .before .before .before in
+    print-fits _ (length-replicate {A = ℕ} 88701 0) (at-print .print .ensures)
 
 pub show-ends-spec : {M : Type 1} → statement M
 show-ends-spec =

@@ -21,13 +21,19 @@ loop-again : tie.Need-loop-again Inv-loop μ-loop
 loop-again c = (search needs, rw length-set (c .before .before .loop .inv .1))
 
 array-share-prefix-input : tie.Need-array-share-prefix-input Inv-loop μ-loop
-array-share-prefix-input c = omega (arith, (c .before .before .before .loop .inv .1))
+array-share-prefix-input c =
+    let at-loop = c .before .before .before in
+    omega (arith, (at-loop .loop .inv .1))
 
 slice-aggregate-show-ends : tie.Need-slice-aggregate-show-ends Inv-loop μ-loop
-slice-aggregate-show-ends c = let at = c .before .before .before .before in let h : 65535 ≤ length (at .loop .input) = omega (arith, at .loop .inv .1) in sym (length-take-le {A = ℕ} 65535 (at .loop .input) h)
+slice-aggregate-show-ends c =
+    let at-before = c .before .before .before in
+    let at = at-before .before in let h : 65535 ≤ length (at .loop .input) = omega (arith, at .loop .inv .1) in sym (length-take-le {A = ℕ} 65535 (at .loop .input) h)
 
 slice-aggregate-show : tie.Need-slice-aggregate-show Inv-loop μ-loop
-slice-aggregate-show c = sym (c .before .before .before .before .before .before .before .before .loop .inv .1)
+slice-aggregate-show c =
+    let at-loop = c .before .before .before .before .before .before .before .before in
+    sym (at-loop .loop .inv .1)
 
 pub show-large-spec : {M : Type 1} → statement M
 show-large-spec =

@@ -6,7 +6,9 @@ use Rattle.readings.proofs.kind.physical.Statement.{statement}
 use Rattle.readings.proofs.kind.physical.Tie as tie
 
 returns : tie.Need-returns
-returns c = physical-is _ _ _ (omega arith) (c .before .before .before .pre) (omega arith)
+returns c =
+    let entry = c .before .before .before in
+    physical-is _ _ _ (omega arith) (entry .pre) (omega arith)
 
 pub physical-spec : {M : Type 1} → statement M
 physical-spec = tie.close (tie.spec (λ c. search needs) (λ c. search needs) (λ c. search needs) returns)

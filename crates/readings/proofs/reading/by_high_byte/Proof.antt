@@ -18,16 +18,28 @@ returns : tie.Need-returns
 returns c = (c .in-range .ensures) ∙ sym (high-value _ _ _ (c .before .if1 .taken)) ∙ at-high _ _ _ (c .before .before .high-byte .ensures)
 
 returns-2 : tie.Need-returns-2
-returns-2 c = (c .without-value .ensures) ∙ sym (high-reserved (c .before .before .before .before .args .kind) (c .before .before .before .before .args .raw) _ (c .before .before .if1 .left) (c .before .if2 .taken)) ∙ at-high _ _ _ (c .before .before .before .high-byte .ensures)
+returns-2 c =
+    let at-high-byte = c .before .before .before in
+    let entry = at-high-byte .before in
+    (c .without-value .ensures) ∙ sym (high-reserved (entry .args .kind) (entry .args .raw) _ (c .before .before .if1 .left) (c .before .if2 .taken)) ∙ at-high _ _ _ (at-high-byte .high-byte .ensures)
 
 returns-3 : tie.Need-returns-3
-returns-3 c = (c .without-value2 .ensures) ∙ sym (high-error (c .before .before .before .before .before .args .kind) (c .before .before .before .before .before .args .raw) _ (c .before .if3 .taken)) ∙ at-high _ _ _ (c .before .before .before .before .high-byte .ensures)
+returns-3 c =
+    let at-high-byte = c .before .before .before .before in
+    let entry = at-high-byte .before in
+    (c .without-value2 .ensures) ∙ sym (high-error (entry .args .kind) (entry .args .raw) _ (c .before .if3 .taken)) ∙ at-high _ _ _ (at-high-byte .high-byte .ensures)
 
 returns-4 : tie.Need-returns-4
-returns-4 c = (c .without-value3 .ensures) ∙ sym (high-not-available (c .before .before .before .before .before .before .args .kind) (c .before .before .before .before .before .before .args .raw) _ (c .before .if4 .taken)) ∙ at-high _ _ _ (c .before .before .before .before .before .high-byte .ensures)
+returns-4 c =
+    let at-high-byte = c .before .before .before .before .before in
+    let entry = at-high-byte .before in
+    (c .without-value3 .ensures) ∙ sym (high-not-available (entry .args .kind) (entry .args .raw) _ (c .before .if4 .taken)) ∙ at-high _ _ _ (at-high-byte .high-byte .ensures)
 
 returns-5 : tie.Need-returns-5
-returns-5 c = sym (high-20 (c .before .before .before .before .before .args .kind) (c .before .before .before .before .before .args .raw) (c .before .before .before .before .high-byte .result) (omega (arith, (c .before .before .if2 .left), (c .before .if3 .left), (c .if4 .left)))) ∙ at-high _ _ _ (c .before .before .before .before .high-byte .ensures)
+returns-5 c =
+    let at-high-byte = c .before .before .before .before in
+    let entry = at-high-byte .before in
+    sym (high-20 (entry .args .kind) (entry .args .raw) (at-high-byte .high-byte .result) (omega (arith, (c .before .before .if2 .left), (c .before .if3 .left), (c .if4 .left)))) ∙ at-high _ _ _ (at-high-byte .high-byte .ensures)
 
 pub by-high-byte-spec : {M : Type 1} → statement M
 by-high-byte-spec =

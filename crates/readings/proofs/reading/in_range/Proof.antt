@@ -15,7 +15,10 @@ unfolding inRange
 returns c = taken _ (lt-ltb _ _ (c .before .if1 .taken)) (c .without-value .ensures)
 
 returns-2 : tie.Need-returns-2
-returns-2 c = rw ((c .before .before .physical .ensures), toZ-ofZ {w = w32} (sfits-of (c .whole .ok)), (c .whole .ensures)) (sym (value-of (c .before .before .before .before .before .args .kind) (c .before .before .before .before .before .args .raw) (c .before .before .before .if1 .left)))
+returns-2 c =
+    let at-if1 = c .before .before .before in
+    let entry = at-if1 .before .before in
+    rw ((c .before .before .physical .ensures), toZ-ofZ {w = w32} (sfits-of (c .whole .ok)), (c .whole .ensures)) (sym (value-of (entry .args .kind) (entry .args .raw) (at-if1 .if1 .left)))
 
 pub in-range-spec : {M : Type 1} → statement M
 in-range-spec =

@@ -19,7 +19,9 @@ by-high-byte-requires c κs = subst Sound (sym (c .row .ensures)) (kinds-sound (
 
 returns-2 : tie.Need-returns-2
 unfolding parameterOf
-returns-2 c = passed _ (le-ltb _ _ (c .before .before .if1 .left)) ((c .by-high-byte .ensures) ∙ ap (λ (k : Kind). measuredAs k (c .before .before .before .args .raw)) (c .before .row .ensures))
+returns-2 c =
+    let entry = c .before .before .before in
+    passed _ (le-ltb _ _ (c .before .before .if1 .left)) ((c .by-high-byte .ensures) ∙ ap (λ (k : Kind). measuredAs k (entry .args .raw)) (c .before .row .ensures))
 
 pub read-parameter-spec : {M : Type 1} → statement M
 read-parameter-spec = tie.close (tie.spec returns (λ c κs. search needs) by-high-byte-requires returns-2)

@@ -19,14 +19,26 @@ returns c = sym (from-none _ _ _ _ (sym (c .before .before .of-address .ensures)
 returns-2 : tie.Need-returns-2
 unfolding passage
 returns-2 c =
-    rw ((c .before .names .ensures), (c .before .before .before .address .ensures), (c .before .before .target .ensures), (c .sent-on .ensures))
-    (sym (from-right (c .before .before .before .before .before .before .before .before .before .before .before .before .args .side) (c .before .before .before .before .before .before .before .before .before .before .before .before .args .own) (c .before .before .before .before .before .before .before .before .before .before .before .before .args .successor) (c .before .before .before .before .before .before .before .before .before .before .before .before .args .fields) _ (sym (c .before .before .before .before .before .before .before .before .before .before .before .of-address .ensures) ∙ (c .before .before .before .before .before .before .before .before .before .source .given .1))
-    (came _ _ (c .before .before .before .before .before .before .before .place .ensures) (c .before .before .before .before .before .before .place2 .ensures) (c .before .before .before .before .before .comes-from .ensures) (c .before .before .before .before .if1 .taken))))
+    let at-address = c .before .before .before in
+    let at-if1 = at-address .before in
+    let at-comes-from = at-if1 .before in
+    let at-place2 = at-comes-from .before in
+    let at-place = at-place2 .before in
+    let at-source = at-place .before .before in
+    let at-of-address = at-source .before .before in
+    let entry = at-of-address .before in
+    rw ((c .before .names .ensures), (at-address .address .ensures), (c .before .before .target .ensures), (c .sent-on .ensures))
+    (sym (from-right (entry .args .side) (entry .args .own) (entry .args .successor) (entry .args .fields) _ (sym (at-of-address .of-address .ensures) ∙ (at-source .source .given .1))
+    (came _ _ (at-place .place .ensures) (at-place2 .place2 .ensures) (at-comes-from .comes-from .ensures) (at-if1 .if1 .taken))))
 
 returns-3 : tie.Need-returns-3
 returns-3 c =
-    sym (from-wrong (c .before .before .before .before .before .before .before .before .args .side) (c .before .before .before .before .before .before .before .before .args .own) (c .before .before .before .before .before .before .before .before .args .successor) (c .before .before .before .before .before .before .before .before .args .fields) _ (sym (c .before .before .before .before .before .before .before .of-address .ensures) ∙ (c .before .before .before .before .before .source .given .1))
-    (came _ _ (c .before .before .before .place .ensures) (c .before .before .place2 .ensures) (c .before .comes-from .ensures) (c .if1 .left)))
+    let at-place = c .before .before .before in
+    let at-source = at-place .before .before in
+    let at-of-address = at-source .before .before in
+    let entry = at-of-address .before in
+    sym (from-wrong (entry .args .side) (entry .args .own) (entry .args .successor) (entry .args .fields) _ (sym (at-of-address .of-address .ensures) ∙ (at-source .source .given .1))
+    (came _ _ (at-place .place .ensures) (c .before .before .place2 .ensures) (c .before .comes-from .ensures) (c .if1 .left)))
 
 pub passed-by-spec : {M : Type 1} → statement M
 passed-by-spec =

@@ -36,7 +36,7 @@ add-buffer-2 : tie.Need-add-buffer-2 Inv-loop μ-loop
 add-buffer-2 c = omega arith
 
 slice-write-buffer : tie.Need-slice-write-buffer Inv-loop μ-loop
-slice-write-buffer c = omega (arith, keeps-length ((c .before .before .loop .inv .1)))
+slice-write-buffer c = omega (arith, keeps-length (c .before .before .loop .inv .1))
 
 add-i : tie.Need-add-i Inv-loop μ-loop
 add-i c = omega arith
@@ -47,10 +47,10 @@ loop-less c = omega arith
 loop-again : tie.Need-loop-again Inv-loop μ-loop
 loop-again c =
     let entry = c .before .before .before in
-    (omega arith, turn _ _ (entry .args .source .now) (entry .args .at) (entry .args .start) (c .before .before .loop .i) (omega arith) ((c .before .before .loop .inv .1)))
+    (omega arith, turn _ _ (entry .args .source .now) (entry .args .at) (entry .args .start) (c .before .before .loop .i) (omega arith) (c .before .before .loop .inv .1))
 
 same-length : tie.Need-same-length Inv-loop μ-loop
-same-length c = keeps-length ((c .before .loop .inv .1))
+same-length c = keeps-length (c .before .loop .inv .1)
 
 returns : tie.Need-returns Inv-loop μ-loop
 returns c =

@@ -8,7 +8,7 @@ use Rattle.receiver.proofs.cutter.first.Tie as tie
 returns : tie.Need-returns
 returns c =
     let entry = c .before .before .before .before .before in
-    (c .frame .ensures) ∙ headed-three _ _ _ _ _ (entry .args .message .now) ((entry .pre .0)) (c .before .before .store .ensures)
+    (c .frame .ensures) ∙ headed-three _ _ _ _ _ (entry .args .message .now) (entry .pre .0) (c .before .before .store .ensures)
 
 pub first-spec : {M : Type 1} → statement M
 first-spec = tie.close (tie.spec (λ c. search needs) (λ c. search needs) (λ c κs. search needs) (λ c κs. search needs) returns)

@@ -8,7 +8,7 @@ use Rattle.receiver.proofs.cutter.single_or_consecutive.Tie as tie
 returns : tie.Need-returns
 returns c =
     let entry = c .before .before .before .before .before in
-    (c .frame .ensures) ∙ headed-two _ _ _ _ (entry .args .message .now) (entry .args .start) (entry .args .count) ((entry .pre .1)) (c .before .before .store .ensures)
+    (c .frame .ensures) ∙ headed-two _ _ _ _ (entry .args .message .now) (entry .args .start) (entry .args .count) (entry .pre .1) (c .before .before .store .ensures)
 
 pub single-or-consecutive-spec : {M : Type 1} → statement M
 single-or-consecutive-spec =

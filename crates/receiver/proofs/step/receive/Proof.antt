@@ -69,7 +69,7 @@ decide-requires c κs =
     let at-if1 = c .before .before .before .before .before .before .before .before in
     let at-is-sound = at-if1 .before in
     let entry = at-is-sound .before .before .before in
-    sound-at (entry .args .t1) (c .before .place-of .result) (sym (at-is-sound .is-sound .ensures) ∙ not-false _ (at-if1 .if1 .left)) ((c .before .place-of .ensures .1))
+    sound-at (entry .args .t1) (c .before .place-of .result) (sym (at-is-sound .is-sound .ensures) ∙ not-false _ (at-if1 .if1 .left)) (c .before .place-of .ensures .1)
 
 store-requires : tie.Need-store-requires
 unfolding receptionAt
@@ -82,7 +82,7 @@ store-requires c κs =
     let at-if1 = at-if2 .before in
     let at-is-sound = at-if1 .before in
     let entry = at-is-sound .before .before .before in
-    let w = is-fitted (entry .args .t1) _ _ (entry .args .stamp) (entry .args .«data» .now) _ _ _ (sym (at-trailer .trailer .ensures) ∙ (at-own .own .given .1)) (at-judge .judge .ensures) ((at-place-of .place-of .ensures .0)) ((c .before .decide .ensures .0)) (sym (at-is-sound .is-sound .ensures) ∙ not-false _ (at-if1 .if1 .left)) ((at-place-of .place-of .ensures .1)) ((c .before .decide .ensures .1)) in
+    let w = is-fitted (entry .args .t1) _ _ (entry .args .stamp) (entry .args .«data» .now) _ _ _ (sym (at-trailer .trailer .ensures) ∙ (at-own .own .given .1)) (at-judge .judge .ensures) (at-place-of .place-of .ensures .0) (c .before .decide .ensures .0) (sym (at-is-sound .is-sound .ensures) ∙ not-false _ (at-if1 .if1 .left)) (at-place-of .place-of .ensures .1) (c .before .decide .ensures .1) in
     (omega (arith, w .ends, (at-if2 .if2 .left), (at-place-of .place-of .ensures)), w .reads)
 
 returns-4 : tie.Need-returns-4
@@ -100,8 +100,8 @@ returns-4 c =
     let entry = at-is-sound .before .before .before in
     let e = is-ready (entry .args .t1) _ (sym (at-is-sound .is-sound .ensures) ∙ not-false _ (at-if1 .if1 .left)) (at-if2 .if2 .left) in
     let t = sym (at-trailer .trailer .ensures) ∙ (at-own .own .given .1) in (
-      taken _ e (received (entry .args .t1) _ _ _ _ _ _ _ t (at-judge .judge .ensures) ((at-place-of .place-of .ensures .0)) (at-decide .decide .ensures .0)),
-      taken _ e ((at-store .store .ensures) ∙ stored (entry .args .t1) _ _ _ _ _ _ _ t (at-judge .judge .ensures) ((at-place-of .place-of .ensures .0)) (at-decide .decide .ensures .0) _),
+      taken _ e (received (entry .args .t1) _ _ _ _ _ _ _ t (at-judge .judge .ensures) (at-place-of .place-of .ensures .0) (at-decide .decide .ensures .0)),
+      taken _ e ((at-store .store .ensures) ∙ stored (entry .args .t1) _ _ _ _ _ _ _ t (at-judge .judge .ensures) (at-place-of .place-of .ensures .0) (at-decide .decide .ensures .0) _),
     )
 
 pub receive-spec : {M : Type 1} → statement M

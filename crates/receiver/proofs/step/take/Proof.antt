@@ -16,7 +16,7 @@ sub-if1 c =
 
 returns : tie.Need-returns
 unfolding takenStep leftOf doneOf regionAt
-returns c = rw ((c .before .before .place .ensures .0)) (taken _ (lt-ltb _ _ (c .before .if1 .taken)) refl)
+returns c = rw (c .before .before .place .ensures .0) (taken _ (lt-ltb _ _ (c .before .if1 .taken)) refl)
 
 sub-t8 : tie.Need-sub-t8
 sub-t8 c =
@@ -25,7 +25,7 @@ sub-t8 c =
 
 returns-2 : tie.Need-returns-2
 unfolding takenStep leftOf doneOf regionAt
-returns-2 c = rw ((c .before .place .ensures .0)) (passed _ (le-ltb _ _ (c .if1 .left)) refl)
+returns-2 c = rw (c .before .place .ensures .0) (passed _ (le-ltb _ _ (c .if1 .left)) refl)
 
 pub take-spec : {M : Type 1} → statement M
 take-spec =

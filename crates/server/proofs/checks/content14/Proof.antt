@@ -9,11 +9,15 @@ use Rattle.server.proofs.checks.content14.Tie as tie
 
 returns : tie.Need-returns
 unfolding contentOf14
-returns c = taken _ (ap (groupHeld ((c .before .before .before .before .args .codes) .now) ((c .before .before .before .before .args .count))) (sym ((c .before .before .group .ensures))) ∙ sym ((c .before .group-held .ensures)) ∙ (c .if1 .taken)) refl
+returns c =
+    let entry = c .before .before .before .before in
+    taken _ (ap (groupHeld ((entry .args .codes) .now) (entry .args .count)) (sym (c .before .before .group .ensures)) ∙ sym (c .before .group-held .ensures) ∙ (c .if1 .taken)) refl
 
 returns-2 : tie.Need-returns-2
 unfolding contentOf14
-returns-2 c = passed _ (ap (groupHeld ((c .before .before .before .before .args .codes) .now) ((c .before .before .before .before .args .count))) (sym ((c .before .before .group .ensures))) ∙ sym ((c .before .group-held .ensures)) ∙ (c .if1 .left)) refl
+returns-2 c =
+    let entry = c .before .before .before .before in
+    passed _ (ap (groupHeld ((entry .args .codes) .now) (entry .args .count)) (sym (c .before .before .group .ensures)) ∙ sym (c .before .group-held .ensures) ∙ (c .if1 .left)) refl
 
 pub content14-spec : {M : Type 1} → statement M
 content14-spec = tie.close (tie.spec

@@ -16,33 +16,45 @@ use Rattle.server.proofs.checks.content19.Statement.{statement}
 use Rattle.server.proofs.checks.content19.Tie as tie
 
 returns : tie.Need-returns
-returns c = sym (content-count _ _ _ _ (sym ((c .before .sub-function .ensures)) ∙ (c .if1 .taken)))
+returns c = sym (content-count _ _ _ _ (sym (c .before .sub-function .ensures) ∙ (c .if1 .taken)))
 
 mul-if2 : tie.Need-mul-if2
-mul-if2 c = omega (arith, (c .count-listed .ensures), count-listed-le ((c .before .before .before .before .before .args .statuses) .now) (eqb ((c .before .before .before .sub-function .result)) 0x0A) ((c .before .mask .result)) ((c .before .before .before .before .before .args .count)))
+mul-if2 c =
+    let at-sub-function = c .before .before .before in
+    let entry = at-sub-function .before .before in
+    omega (arith, (c .count-listed .ensures), count-listed-le ((entry .args .statuses) .now) (eqb (at-sub-function .sub-function .result) 0x0A) (c .before .mask .result) (entry .args .count))
 
 add-if2 : tie.Need-add-if2
-add-if2 c = omega (arith, (c .count-listed .ensures), count-listed-le ((c .before .before .before .before .before .args .statuses) .now) (eqb ((c .before .before .before .sub-function .result)) 0x0A) ((c .before .mask .result)) ((c .before .before .before .before .before .args .count)))
+add-if2 c =
+    let at-sub-function = c .before .before .before in
+    let entry = at-sub-function .before .before in
+    omega (arith, (c .count-listed .ensures), count-listed-le ((entry .args .statuses) .now) (eqb (at-sub-function .sub-function .result) 0x0A) (c .before .mask .result) (entry .args .count))
 
 returns-2 : tie.Need-returns-2
 unfolding contentOf19
 returns-2 c =
-    let S = (c .before .before .before .before .before .before .args .statuses) .now in
-    let n = (c .before .before .before .before .before .before .args .count) in
-    let R = (c .before .before .before .before .before .before .args .request) .now in
-    let counted : (c .before .count-listed .result) ≡ countListed S (eqb (subFunctionOf R) 0x0A) (maskOf R) n = (c .before .count-listed .ensures) ∙ ap (λ (s : ℕ). countListed S (eqb s 0x0A) ((c .before .before .mask .result)) n) ((c .before .before .before .before .sub-function .ensures)) ∙ ap (λ (m : ℕ). countListed S (eqb (subFunctionOf R) 0x0A) m n) ((c .before .before .mask .ensures)) in
-    let e = length-faults ((c .before .before .before .before .before .before .args .codes) .now) S n R (λ q. (c .before .before .before .if1 .left) ((c .before .before .before .before .sub-function .ensures) ∙ q)) in
-    taken _ (lt-ltb 255 (3 + length (faultsOf ((c .before .before .before .before .before .before .args .codes) .now) S n R)) (omega (arith, e, counted, (c .if2 .taken)))) refl
+    let at-if1 = c .before .before .before in
+    let at-sub-function = at-if1 .before in
+    let entry = at-sub-function .before .before in
+    let S = (entry .args .statuses) .now in
+    let n = (entry .args .count) in
+    let R = (entry .args .request) .now in
+    let counted : (c .before .count-listed .result) ≡ countListed S (eqb (subFunctionOf R) 0x0A) (maskOf R) n = (c .before .count-listed .ensures) ∙ ap (λ (s : ℕ). countListed S (eqb s 0x0A) (c .before .before .mask .result) n) (at-sub-function .sub-function .ensures) ∙ ap (λ (m : ℕ). countListed S (eqb (subFunctionOf R) 0x0A) m n) (c .before .before .mask .ensures) in
+    let e = length-faults ((entry .args .codes) .now) S n R (λ q. (at-if1 .if1 .left) ((at-sub-function .sub-function .ensures) ∙ q)) in
+    taken _ (lt-ltb 255 (3 + length (faultsOf ((entry .args .codes) .now) S n R)) (omega (arith, e, counted, (c .if2 .taken)))) refl
 
 returns-3 : tie.Need-returns-3
 unfolding contentOf19
 returns-3 c =
-    let S = (c .before .before .before .before .before .before .args .statuses) .now in
-    let n = (c .before .before .before .before .before .before .args .count) in
-    let R = (c .before .before .before .before .before .before .args .request) .now in
-    let counted : (c .before .count-listed .result) ≡ countListed S (eqb (subFunctionOf R) 0x0A) (maskOf R) n = (c .before .count-listed .ensures) ∙ ap (λ (s : ℕ). countListed S (eqb s 0x0A) ((c .before .before .mask .result)) n) ((c .before .before .before .before .sub-function .ensures)) ∙ ap (λ (m : ℕ). countListed S (eqb (subFunctionOf R) 0x0A) m n) ((c .before .before .mask .ensures)) in
-    let e = length-faults ((c .before .before .before .before .before .before .args .codes) .now) S n R (λ q. (c .before .before .before .if1 .left) ((c .before .before .before .before .sub-function .ensures) ∙ q)) in
-    passed _ (le-ltb 255 (3 + length (faultsOf ((c .before .before .before .before .before .before .args .codes) .now) S n R)) (omega (arith, e, counted, (c .if2 .left)))) refl
+    let at-if1 = c .before .before .before in
+    let at-sub-function = at-if1 .before in
+    let entry = at-sub-function .before .before in
+    let S = (entry .args .statuses) .now in
+    let n = (entry .args .count) in
+    let R = (entry .args .request) .now in
+    let counted : (c .before .count-listed .result) ≡ countListed S (eqb (subFunctionOf R) 0x0A) (maskOf R) n = (c .before .count-listed .ensures) ∙ ap (λ (s : ℕ). countListed S (eqb s 0x0A) (c .before .before .mask .result) n) (at-sub-function .sub-function .ensures) ∙ ap (λ (m : ℕ). countListed S (eqb (subFunctionOf R) 0x0A) m n) (c .before .before .mask .ensures) in
+    let e = length-faults ((entry .args .codes) .now) S n R (λ q. (at-if1 .if1 .left) ((at-sub-function .sub-function .ensures) ∙ q)) in
+    passed _ (le-ltb 255 (3 + length (faultsOf ((entry .args .codes) .now) S n R)) (omega (arith, e, counted, (c .if2 .left)))) refl
 
 pub content19-spec : {M : Type 1} → statement M
 content19-spec = tie.close (tie.spec

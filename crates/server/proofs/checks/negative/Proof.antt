@@ -12,26 +12,45 @@ use Rattle.server.proofs.checks.negative.Tie as tie
 
 returns : tie.Need-returns
 unfolding negativeFields
-returns c = passed _ (ap (λ (x : ℕ). eqb x 0) (sym ((c .before .form .ensures))) ∙ ne-eqb _ _ ((c .if1 .taken))) ((c .before .form .ensures))
+returns c = passed _ (ap (λ (x : ℕ). eqb x 0) (sym (c .before .form .ensures)) ∙ ne-eqb _ _ (c .if1 .taken)) (c .before .form .ensures)
 
 content14-requires : tie.Need-content14-requires
-content14-requires c κs = ((c .before .before .before .before .before .pre) .0, length-14 _ (sym ((c .before .before .before .form .ensures)) ∙ (c .before .before .if1 .left)) (sym ((c .before .service .ensures)) ∙ (c .if2 .taken)))
+content14-requires c κs =
+    let at-form = c .before .before .before in
+    let entry = at-form .before .before in
+    ((entry .pre) .0, length-14 _ (sym (at-form .form .ensures) ∙ (c .before .before .if1 .left)) (sym (c .before .service .ensures) ∙ (c .if2 .taken)))
 
 returns-2 : tie.Need-returns-2
 unfolding negativeFields contentFields
-returns-2 c = taken _ (eq-eqb _ 0 (sym ((c .before .before .before .before .form .ensures)) ∙ (c .before .before .before .if1 .left))) (taken _ (eq-eqb _ 0x14 (sym ((c .before .before .service .ensures)) ∙ (c .before .if2 .taken))) ((c .content14 .ensures)))
+returns-2 c =
+    let at-if1 = c .before .before .before in
+    let at-form = at-if1 .before in
+    taken _ (eq-eqb _ 0 (sym (at-form .form .ensures) ∙ (at-if1 .if1 .left))) (taken _ (eq-eqb _ 0x14 (sym (c .before .before .service .ensures) ∙ (c .before .if2 .taken))) (c .content14 .ensures))
 
 returns-3 : tie.Need-returns-3
 unfolding negativeFields contentFields
-returns-3 c = taken _ (eq-eqb _ 0 (sym ((c .before .before .before .before .before .form .ensures)) ∙ (c .before .before .before .before .if1 .left))) (passed _ (ap (λ (x : ℕ). eqb x 0x14) (sym ((c .before .before .before .service .ensures))) ∙ ne-eqb _ _ ((c .before .before .if2 .left))) (taken _ (eq-eqb _ 0x19 (sym ((c .before .before .before .service .ensures)) ∙ (c .before .if3 .taken))) ((c .content19 .ensures))))
+returns-3 c =
+    let at-service = c .before .before .before in
+    let at-if1 = at-service .before in
+    let at-form = at-if1 .before in
+    taken _ (eq-eqb _ 0 (sym (at-form .form .ensures) ∙ (at-if1 .if1 .left))) (passed _ (ap (λ (x : ℕ). eqb x 0x14) (sym (at-service .service .ensures)) ∙ ne-eqb _ _ (c .before .before .if2 .left)) (taken _ (eq-eqb _ 0x19 (sym (at-service .service .ensures) ∙ (c .before .if3 .taken))) (c .content19 .ensures)))
 
 returns-4 : tie.Need-returns-4
 unfolding negativeFields contentFields
-returns-4 c = taken _ (eq-eqb _ 0 (sym ((c .before .before .before .before .before .before .form .ensures)) ∙ (c .before .before .before .before .before .if1 .left))) (passed _ (ap (λ (x : ℕ). eqb x 0x14) (sym ((c .before .before .before .before .service .ensures))) ∙ ne-eqb _ _ ((c .before .before .before .if2 .left))) (passed _ (ap (λ (x : ℕ). eqb x 0x19) (sym ((c .before .before .before .before .service .ensures))) ∙ ne-eqb _ _ ((c .before .before .if3 .left))) (taken _ (eq-eqb _ 0x22 (sym ((c .before .before .before .before .service .ensures)) ∙ (c .before .if4 .taken))) ((c .content22 .ensures)))))
+returns-4 c =
+    let at-if2 = c .before .before .before in
+    let at-service = at-if2 .before in
+    let at-if1 = at-service .before in
+    let at-form = at-if1 .before in
+    taken _ (eq-eqb _ 0 (sym (at-form .form .ensures) ∙ (at-if1 .if1 .left))) (passed _ (ap (λ (x : ℕ). eqb x 0x14) (sym (at-service .service .ensures)) ∙ ne-eqb _ _ (at-if2 .if2 .left)) (passed _ (ap (λ (x : ℕ). eqb x 0x19) (sym (at-service .service .ensures)) ∙ ne-eqb _ _ (c .before .before .if3 .left)) (taken _ (eq-eqb _ 0x22 (sym (at-service .service .ensures) ∙ (c .before .if4 .taken))) (c .content22 .ensures))))
 
 returns-5 : tie.Need-returns-5
 unfolding negativeFields contentFields
-returns-5 c = taken _ (eq-eqb _ 0 (sym ((c .before .before .before .before .before .form .ensures)) ∙ (c .before .before .before .before .if1 .left))) (passed _ (ap (λ (x : ℕ). eqb x 0x14) (sym ((c .before .before .before .service .ensures))) ∙ ne-eqb _ _ ((c .before .before .if2 .left))) (passed _ (ap (λ (x : ℕ). eqb x 0x19) (sym ((c .before .before .before .service .ensures))) ∙ ne-eqb _ _ ((c .before .if3 .left))) (passed _ (ap (λ (x : ℕ). eqb x 0x22) (sym ((c .before .before .before .service .ensures))) ∙ ne-eqb _ _ ((c .if4 .left))) refl)))
+returns-5 c =
+    let at-service = c .before .before .before in
+    let at-if1 = at-service .before in
+    let at-form = at-if1 .before in
+    taken _ (eq-eqb _ 0 (sym (at-form .form .ensures) ∙ (at-if1 .if1 .left))) (passed _ (ap (λ (x : ℕ). eqb x 0x14) (sym (at-service .service .ensures)) ∙ ne-eqb _ _ (c .before .before .if2 .left)) (passed _ (ap (λ (x : ℕ). eqb x 0x19) (sym (at-service .service .ensures)) ∙ ne-eqb _ _ (c .before .if3 .left)) (passed _ (ap (λ (x : ℕ). eqb x 0x22) (sym (at-service .service .ensures)) ∙ ne-eqb _ _ (c .if4 .left)) refl)))
 
 pub negative-spec : {M : Type 1} → statement M
 negative-spec = tie.close (tie.spec

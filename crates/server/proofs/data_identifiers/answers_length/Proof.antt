@@ -26,21 +26,25 @@ loop-holds c = (search needs, (search needs, rw (list-none _)))
 loop-again : tie.Need-loop-again Inv-loop μ-loop
 unfolding answerAt
 loop-again c =
-    let l = (c .before .before .before .before .loop) in
-    let I = (c .before .before .before .before .before .before .args .identifiers) .now in
-    let L = (c .before .before .before .before .before .before .args .lengths) .now in
-    let B = (c .before .before .before .before .before .before .args .bytes) .now in
-    let R = (c .before .before .before .before .before .before .args .request) .now in
-    let h = (c .before .before .before .before .before .before .args .held) in
+    let at-loop = c .before .before .before .before in
+    let entry = at-loop .before .before in
+    let l = (at-loop .loop) in
+    let I = (entry .args .identifiers) .now in
+    let L = (entry .args .lengths) .now in
+    let B = (entry .args .bytes) .now in
+    let R = (entry .args .request) .now in
+    let h = (entry .args .held) in
     let more = length-more (answerAt I L B h R) (l .j) in
-    let at : (c .before .place .result) ≡ placeOf I h (askedAt R (l .j)) = (c .before .place .ensures) ∙ ap (placeOf I h) ((c .before .before .asked .ensures)) in
+    let at : (c .before .place .result) ≡ placeOf I h (askedAt R (l .j)) = (c .before .place .ensures) ∙ ap (placeOf I h) (c .before .before .asked .ensures) in
     ⊎-elim
-    (λ w. (search needs, (omega (arith, w .3, w .2 .ensures .1), omega (arith, more, w .3, w .2 .ensures .0, length-identifier I L B ((c .before .place .result)), ap length (answer-hit I L B h (askedAt R (l .j)) ((c .before .place .result)) (sym at) (w .0 .taken))))))
-    (λ w. (search needs, (omega (arith, w .1), omega (arith, more, w .1, ap length (answer-miss I L B h (askedAt R (l .j)) (rw (sym at) (w .0 .left))))))) ((c .if1 .came))
+    (λ w. (search needs, (omega (arith, w .3, w .2 .ensures .1), omega (arith, more, w .3, w .2 .ensures .0, length-identifier I L B (c .before .place .result), ap length (answer-hit I L B h (askedAt R (l .j)) (c .before .place .result) (sym at) (w .0 .taken))))))
+    (λ w. (search needs, (omega (arith, w .1), omega (arith, more, w .1, ap length (answer-miss I L B h (askedAt R (l .j)) (rw (sym at) (w .0 .left))))))) (c .if1 .came)
 
 returns : tie.Need-returns Inv-loop μ-loop
 unfolding answersOf askedCount
-returns c = let e : askedCount ((c .before .before .before .args .request) .now) ≡ (c .before .loop .j) = omega arith in rw e ((c .before .loop .inv) .1 .1)
+returns c =
+    let entry = c .before .before .before in
+    let e : askedCount ((entry .args .request) .now) ≡ (c .before .loop .j) = omega arith in rw e ((c .before .loop .inv) .1 .1)
 
 pub answers-length-spec : {M : Type 1} → statement M
 answers-length-spec = tie.close (tie.spec

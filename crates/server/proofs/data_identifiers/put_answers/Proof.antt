@@ -41,50 +41,65 @@ loop-holds c = (search needs, (refl, (refl, (refl, first-none _))))
 put-identifier-and-data-requires : tie.Need-put-identifier-and-data-requires Inv-loop μ-loop Inv-asked μ-asked
 unfolding askedCount
 put-identifier-and-data-requires c κs =
-    let l = (c .before .before .before .before .loop) in
-    let o = (c .before .before .before .before .before .before .before .asked) in
-    let I = (c .before .before .before .before .before .before .before .before .before .before .args .identifiers) .now in
-    let L = (c .before .before .before .before .before .before .before .before .before .before .args .lengths) .now in
-    let B = (c .before .before .before .before .before .before .before .before .before .before .args .bytes) .now in
-    let h = (c .before .before .before .before .before .before .before .before .before .before .args .held) in
-    let R = (c .before .before .before .before .before .before .before .before .before .before .args .request) .now in
-    let p : Puts ((c .before .before .before .before .before .before .before .before .before .before .args .response) .now) ((c .before .before .before .before .before .before .before .before .before .before .args .start)) (listBelow (answerAt I L B h R) (o .j)) (l .at) (l .response) = rw (l .inv .1 .1 .0, l .inv .1 .1 .1 .0) (o .inv .1) in
-    (omega (arith, (c .before .before .before .before .before .before .before .before .before .before .pre) .0), (length-within L h (l .k) ((c .before .before .before .before .before .before .before .before .before .before .pre) .1 .0) (search needs) .1, answer-fits I L B h R (o .j) (l .k) _ (found I L B h R (o .j) (l .k) ((c .before .before .before .before .before .asked2 .ensures)) (l .inv .1 .1 .1 .1) ((c .before .if1 .taken)) (search needs)) (search needs) p ((c .before .before .before .before .before .before .before .before .before .before .pre) .1 .1 .1)))
+    let at-loop = c .before .before .before .before in
+    let at-asked2 = at-loop .before in
+    let at-asked = at-asked2 .before .before in
+    let entry = at-asked .before .before .before in
+    let l = (at-loop .loop) in
+    let o = (at-asked .asked) in
+    let I = (entry .args .identifiers) .now in
+    let L = (entry .args .lengths) .now in
+    let B = (entry .args .bytes) .now in
+    let h = (entry .args .held) in
+    let R = (entry .args .request) .now in
+    let p : Puts ((entry .args .response) .now) (entry .args .start) (listBelow (answerAt I L B h R) (o .j)) (l .at) (l .response) = rw (l .inv .1 .1 .0, l .inv .1 .1 .1 .0) (o .inv .1) in
+    (omega (arith, (entry .pre) .0), (length-within L h (l .k) ((entry .pre) .1 .0) (search needs) .1, answer-fits I L B h R (o .j) (l .k) _ (found I L B h R (o .j) (l .k) (at-asked2 .asked2 .ensures) (l .inv .1 .1 .1 .1) (c .before .if1 .taken) (search needs)) (search needs) p ((entry .pre) .1 .1 .1)))
 
 asked-again : tie.Need-asked-again Inv-loop μ-loop Inv-asked μ-asked
 asked-again c =
-    let l = (c .before .before .before .before .before .before .before .loop) in
-    let o = (c .before .before .before .before .before .before .before .before .before .before .asked) in
-    let I = (c .before .before .before .before .before .before .before .before .before .before .before .before .before .args .identifiers) .now in
-    let L = (c .before .before .before .before .before .before .before .before .before .before .before .before .before .args .lengths) .now in
-    let B = (c .before .before .before .before .before .before .before .before .before .before .before .before .before .args .bytes) .now in
-    let h = (c .before .before .before .before .before .before .before .before .before .before .before .before .before .args .held) in
-    let R = (c .before .before .before .before .before .before .before .before .before .before .before .before .before .args .request) .now in
-    let p : Puts ((c .before .before .before .before .before .before .before .before .before .before .before .before .before .args .response) .now) ((c .before .before .before .before .before .before .before .before .before .before .before .before .before .args .start)) (listBelow (answerAt I L B h R) (o .j)) (l .at) (l .response) = rw (l .inv .1 .1 .0, l .inv .1 .1 .1 .0) (o .inv .1) in
-    rw (l .inv .1 .0) (search needs, turn _ _ p (found I L B h R (o .j) (l .k) ((c .before .before .before .before .before .before .before .before .asked2 .ensures)) (l .inv .1 .1 .1 .1) ((c .before .before .before .before .if1 .taken)) (search needs)) ((c .before .before .put-identifier-and-data .ensures)))
+    let at-if1 = c .before .before .before .before in
+    let at-loop = at-if1 .before .before .before in
+    let at-asked2 = at-loop .before in
+    let at-asked = at-asked2 .before .before in
+    let entry = at-asked .before .before .before in
+    let l = (at-loop .loop) in
+    let o = (at-asked .asked) in
+    let I = (entry .args .identifiers) .now in
+    let L = (entry .args .lengths) .now in
+    let B = (entry .args .bytes) .now in
+    let h = (entry .args .held) in
+    let R = (entry .args .request) .now in
+    let p : Puts ((entry .args .response) .now) (entry .args .start) (listBelow (answerAt I L B h R) (o .j)) (l .at) (l .response) = rw (l .inv .1 .1 .0, l .inv .1 .1 .1 .0) (o .inv .1) in
+    rw (l .inv .1 .0) (search needs, turn _ _ p (found I L B h R (o .j) (l .k) (at-asked2 .asked2 .ensures) (l .inv .1 .1 .1 .1) (at-if1 .if1 .taken) (search needs)) (c .before .before .put-identifier-and-data .ensures))
 
 loop-again : tie.Need-loop-again Inv-loop μ-loop Inv-asked μ-asked
-loop-again c = let l = (c .before .before .before .loop) in (search needs, (l .inv .1 .0, (l .inv .1 .1 .0, (l .inv .1 .1 .1 .0, first-miss _ _ (l .inv .1 .1 .1 .1) (ne-eqb _ _ ((c .if1 .left)))))))
+loop-again c =
+    let at-loop = c .before .before .before in
+    let l = (at-loop .loop) in (search needs, (l .inv .1 .0, (l .inv .1 .1 .0, (l .inv .1 .1 .1 .0, first-miss _ _ (l .inv .1 .1 .1 .1) (ne-eqb _ _ (c .if1 .left))))))
 
 asked-again-2 : tie.Need-asked-again-2 Inv-loop μ-loop Inv-asked μ-asked
 asked-again-2 c =
+    let at-asked = c .before .before .before .before in
+    let entry = at-asked .before .before .before in
     let l = (c .before .loop) in
-    let o = (c .before .before .before .before .asked) in
-    let I = (c .before .before .before .before .before .before .before .args .identifiers) .now in
-    let L = (c .before .before .before .before .before .before .before .args .lengths) .now in
-    let B = (c .before .before .before .before .before .before .before .args .bytes) .now in
-    let h = (c .before .before .before .before .before .before .before .args .held) in
-    let R = (c .before .before .before .before .before .before .before .args .request) .now in
-    let p : Puts ((c .before .before .before .before .before .before .before .args .response) .now) ((c .before .before .before .before .before .before .before .args .start)) (listBelow (answerAt I L B h R) (o .j)) (l .at) (l .response) = rw (l .inv .1 .1 .0, l .inv .1 .1 .1 .0) (o .inv .1) in
+    let o = (at-asked .asked) in
+    let I = (entry .args .identifiers) .now in
+    let L = (entry .args .lengths) .now in
+    let B = (entry .args .bytes) .now in
+    let h = (entry .args .held) in
+    let R = (entry .args .request) .now in
+    let p : Puts ((entry .args .response) .now) (entry .args .start) (listBelow (answerAt I L B h R) (o .j)) (l .at) (l .response) = rw (l .inv .1 .1 .0, l .inv .1 .1 .1 .0) (o .inv .1) in
     let e : h ≡ l .k = omega arith in
-    rw (l .inv .1 .0) (search needs, turn-none _ _ p (found-none I L B h R (o .j) ((c .before .before .asked2 .ensures)) (rw e (l .inv .1 .1 .1 .1))))
+    rw (l .inv .1 .0) (search needs, turn-none _ _ p (found-none I L B h R (o .j) (c .before .before .asked2 .ensures) (rw e (l .inv .1 .1 .1 .1))))
 
 same-length : tie.Need-same-length Inv-loop μ-loop Inv-asked μ-asked
 same-length c = keeps-length ((c .before .asked .inv) .1)
 
 returns : tie.Need-returns Inv-loop μ-loop Inv-asked μ-asked
 unfolding answersOf askedCount
-returns c = let e : askedCount ((c .before .before .before .before .args .request) .now) ≡ (c .before .asked .j) = omega arith in rw e ((c .before .asked .inv) .1)
+returns c =
+    let entry = c .before .before .before .before in
+    let e : askedCount ((entry .args .request) .now) ≡ (c .before .asked .j) = omega arith in rw e ((c .before .asked .inv) .1)
 
 pub put-answers-spec : {M : Type 1} → statement M
 put-answers-spec = tie.close (tie.spec

@@ -33,7 +33,9 @@ same-length c = keeps-length ((c .before .loop .inv) .1 .1)
 
 returns : tie.Need-returns Inv-loop μ-loop
 unfolding dataOf
-returns c = let e : getD ((c .before .before .before .before .before .args .lengths) .now) ((c .before .before .before .before .before .args .k)) 0 ≡ (c .before .loop .j) = omega arith in rw e ((c .before .loop .inv) .1 .1)
+returns c =
+    let entry = c .before .before .before .before .before in
+    let e : getD ((entry .args .lengths) .now) (entry .args .k) 0 ≡ (c .before .loop .j) = omega arith in rw e ((c .before .loop .inv) .1 .1)
 
 pub put-data-spec : {M : Type 1} → statement M
 put-data-spec = tie.close (tie.spec

@@ -9,11 +9,15 @@ use Rattle.server.proofs.data_identifiers.put_identifier_and_data.Tie a
 
 put-data-requires : tie.Need-put-data-requires
 unfolding twoBytes
-put-data-requires c κs = (search needs, (search needs, omega (arith, (c .before .before .before .put-two .ensures) .ends, keeps-length ((c .before .before .before .put-two .ensures)))))
+put-data-requires c κs =
+    let at-put-two = c .before .before .before in
+    (search needs, (search needs, omega (arith, (at-put-two .put-two .ensures) .ends, keeps-length (at-put-two .put-two .ensures))))
 
 returns : tie.Need-returns
 unfolding identifierAndData
-returns c = (c .before .before .before .before .before .before .put-two .ensures) ▸ (c .before .before .put-data .ensures)
+returns c =
+    let at-put-two = c .before .before .before .before .before .before in
+    (at-put-two .put-two .ensures) ▸ (c .before .before .put-data .ensures)
 
 pub put-identifier-and-data-spec : {M : Type 1} → statement M
 put-identifier-and-data-spec = tie.close (tie.spec

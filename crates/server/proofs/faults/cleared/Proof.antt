@@ -23,9 +23,11 @@ loop-holds c = (search needs, sym (clear-none _ _ _ _))
 
 loop-again : tie.Need-loop-again Inv-loop μ-loop
 loop-again c =
-    let l = (c .before .before .before .before .loop) in
-    ⊎-elim (λ w. (search needs, w .1 ∙ ap (λ (s : List ℕ). set s (l .i) ((c .before .before .before .before .before .args .status))) (l .inv .1) ∙ clear-hit _ _ _ _ _ (sym ((c .before .in-group .ensures)) ∙ w .0 .taken)))
-    (λ w. (search needs, w .1 ∙ l .inv .1 ∙ clear-miss _ _ _ _ _ (sym ((c .before .in-group .ensures)) ∙ w .0 .left))) ((c .if1 .came))
+    let at-loop = c .before .before .before .before in
+    let entry = at-loop .before in
+    let l = (at-loop .loop) in
+    ⊎-elim (λ w. (search needs, w .1 ∙ ap (λ (s : List ℕ). set s (l .i) (entry .args .status)) (l .inv .1) ∙ clear-hit _ _ _ _ _ (sym (c .before .in-group .ensures) ∙ w .0 .taken)))
+    (λ w. (search needs, w .1 ∙ l .inv .1 ∙ clear-miss _ _ _ _ _ (sym (c .before .in-group .ensures) ∙ w .0 .left))) (c .if1 .came)
 
 returns : tie.Need-returns Inv-loop μ-loop
 returns c = let e : (c .before .before .args .count) ≡ (c .before .loop .i) = omega arith in rw e ((c .before .loop .inv) .1)

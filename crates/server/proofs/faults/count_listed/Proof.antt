@@ -23,9 +23,10 @@ loop-holds c = (search needs, (search needs, sym (count-none _)))
 
 loop-again : tie.Need-loop-again Inv-loop μ-loop
 loop-again c =
-    let l = (c .before .before .before .before .loop) in
-    ⊎-elim (λ w. (search needs, (omega (arith, w .1), w .1 ∙ ap (λ (x : ℕ). x + 1) (l .inv .1 .1) ∙ sym (count-hit _ _ (sym ((c .before .is-listed .ensures)) ∙ w .0 .taken)))))
-    (λ w. (search needs, (omega (arith, w .1), w .1 ∙ l .inv .1 .1 ∙ sym (count-miss _ _ (sym ((c .before .is-listed .ensures)) ∙ w .0 .left))))) ((c .if1 .came))
+    let at-loop = c .before .before .before .before in
+    let l = (at-loop .loop) in
+    ⊎-elim (λ w. (search needs, (omega (arith, w .1), w .1 ∙ ap (λ (x : ℕ). x + 1) (l .inv .1 .1) ∙ sym (count-hit _ _ (sym (c .before .is-listed .ensures) ∙ w .0 .taken)))))
+    (λ w. (search needs, (omega (arith, w .1), w .1 ∙ l .inv .1 .1 ∙ sym (count-miss _ _ (sym (c .before .is-listed .ensures) ∙ w .0 .left))))) (c .if1 .came)
 
 returns : tie.Need-returns Inv-loop μ-loop
 unfolding countListed

@@ -12,11 +12,11 @@ use Rattle.server.proofs.faults.group_held.Tie as tie
 
 returns : tie.Need-returns
 unfolding groupHeld
-returns c = left-holds _ (eq-eqb _ _ ((c .if1 .taken)))
+returns c = left-holds _ (eq-eqb _ _ (c .if1 .taken))
 
 returns-2 : tie.Need-returns-2
 unfolding groupHeld heldAmong
-returns-2 c = right-decides (ne-eqb _ _ ((c .before .if1 .left))) (ap (λ (i : ℕ). ltb i ((c .before .before .args .count))) ((c .place .ensures)))
+returns-2 c = right-decides (ne-eqb _ _ (c .before .if1 .left)) (ap (λ (i : ℕ). ltb i (c .before .before .args .count)) (c .place .ensures))
 
 pub group-held-spec : {M : Type 1} → statement M
 group-held-spec = tie.close (tie.spec

@@ -23,10 +23,14 @@ loop-holds c = (search needs, first-none _)
 
 returns : tie.Need-returns Inv-loop μ-loop
 unfolding placeOf
-returns c = sym (first-hit _ _ _ ((c .before .before .before .loop .inv) .1) (eq-eqb _ _ ((c .if1 .taken))) (search needs))
+returns c =
+    let at-loop = c .before .before .before in
+    sym (first-hit _ _ _ ((at-loop .loop .inv) .1) (eq-eqb _ _ (c .if1 .taken)) (search needs))
 
 loop-again : tie.Need-loop-again Inv-loop μ-loop
-loop-again c = (search needs, first-miss _ _ ((c .before .before .before .loop .inv) .1) (ne-eqb _ _ ((c .if1 .left))))
+loop-again c =
+    let at-loop = c .before .before .before in
+    (search needs, first-miss _ _ ((at-loop .loop .inv) .1) (ne-eqb _ _ (c .if1 .left)))
 
 returns-2 : tie.Need-returns-2 Inv-loop μ-loop
 unfolding placeOf

@@ -24,21 +24,26 @@ loop-holds : tie.Need-loop-holds Inv-loop μ-loop
 loop-holds c = (search needs, (omega arith, rw (list-none _) (puts-none _ _)))
 
 put-code-and-status-requires : tie.Need-put-code-and-status-requires Inv-loop μ-loop
-put-code-and-status-requires c κs = omega (arith, keeps-length ((c .before .before .before .before .before .before .loop .inv) .1 .1))
+put-code-and-status-requires c κs =
+    let at-loop = c .before .before .before .before .before .before in
+    omega (arith, keeps-length ((at-loop .loop .inv) .1 .1))
 
 loop-again : tie.Need-loop-again Inv-loop μ-loop
 unfolding codeAndStatus
 loop-again c =
-    let l = (c .before .before .before .before .loop) in
-    ⊎-elim (λ w. (search needs, (omega (arith, w .7, w .3 .ensures .ends), rw (w .7, w .6) (turn _ _ (l .inv .1 .1) (listed-hit _ _ _ _ _ (sym ((c .before .is-listed .ensures)) ∙ w .0 .taken)) (w .3 .ensures)))))
-    (λ w. (search needs, (omega (arith, w .2), rw (w .2, w .1) (turn-none _ _ (l .inv .1 .1) (listed-miss _ _ _ _ _ (sym ((c .before .is-listed .ensures)) ∙ w .0 .left)))))) ((c .if1 .came))
+    let at-loop = c .before .before .before .before in
+    let l = (at-loop .loop) in
+    ⊎-elim (λ w. (search needs, (omega (arith, w .7, w .3 .ensures .ends), rw (w .7, w .6) (turn _ _ (l .inv .1 .1) (listed-hit _ _ _ _ _ (sym (c .before .is-listed .ensures) ∙ w .0 .taken)) (w .3 .ensures)))))
+    (λ w. (search needs, (omega (arith, w .2), rw (w .2, w .1) (turn-none _ _ (l .inv .1 .1) (listed-miss _ _ _ _ _ (sym (c .before .is-listed .ensures) ∙ w .0 .left)))))) (c .if1 .came)
 
 same-length : tie.Need-same-length Inv-loop μ-loop
 same-length c = keeps-length ((c .before .loop .inv) .1 .1)
 
 returns : tie.Need-returns Inv-loop μ-loop
 unfolding reportOf
-returns c = let e : (c .before .before .before .args .count) ≡ (c .before .loop .i) = omega arith in rw e ((c .before .loop .inv) .1 .1)
+returns c =
+    let entry = c .before .before .before in
+    let e : (entry .args .count) ≡ (c .before .loop .i) = omega arith in rw e ((c .before .loop .inv) .1 .1)
 
 pub put-report-spec : {M : Type 1} → statement M
 put-report-spec = tie.close (tie.spec

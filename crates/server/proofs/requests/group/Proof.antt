@@ -8,7 +8,8 @@ use Rattle.server.proofs.requests.group.Tie as tie
 returns : tie.Need-returns
 unfolding groupOf
 returns c =
-    let p : (c .before .before .before .before .wide .result) ≡ _ = (c .before .before .before .before .wide .ensures) .0 in
+    let at-wide = c .before .before .before .before in
+    let p : (at-wide .wide .result) ≡ _ = (at-wide .wide .ensures) .0 in
     let q : (c .before .before .wide2 .result) ≡ _ = (c .before .before .wide2 .ensures) .0 in
     let r : (c .wide3 .result) ≡ _ = (c .wide3 .ensures) .0 in
     rw (p, q, r)

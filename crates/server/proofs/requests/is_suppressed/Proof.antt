@@ -10,8 +10,9 @@ use Rattle.server.proofs.requests.is_suppressed.Tie as tie
 returns : tie.Need-returns
 unfolding suppressed
 returns c =
-    let s : (c .before .before .service .result) ≡ serviceOf ((c .before .before .before .before .args .request) .now) = (c .before .before .service .ensures) in
-    let b : (c .second .result) ≡ getD ((c .before .before .before .before .args .request) .now) 1 0 = (c .second .ensures) in
+    let entry = c .before .before .before .before in
+    let s : (c .before .before .service .result) ≡ serviceOf ((entry .args .request) .now) = (c .before .before .service .ensures) in
+    let b : (c .second .result) ≡ getD ((entry .args .request) .now) 1 0 = (c .second .ensures) in
     rw (and-is, (c .before .has-sub-function .ensures), s, b)
 
 pub is-suppressed-spec : {M : Type 1} → statement M

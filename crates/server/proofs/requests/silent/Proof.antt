@@ -10,11 +10,13 @@ use Rattle.server.proofs.requests.silent.Tie as tie
 
 returns : tie.Need-returns
 unfolding silentOn
-returns c = taken _ (eq-eqb _ _ ((c .before .if1 .taken))) ((c .is-suppressed .ensures))
+returns c = taken _ (eq-eqb _ _ (c .before .if1 .taken)) (c .is-suppressed .ensures)
 
 returns-2 : tie.Need-returns-2
 unfolding silentOn
-returns-2 c = passed _ (ne-eqb _ _ ((c .before .if1 .left))) (and-is _ _ ∙ ap (both ((c .before .before .before .args .functional))) ((c .is-quiet .ensures)))
+returns-2 c =
+    let entry = c .before .before .before in
+    passed _ (ne-eqb _ _ (c .before .if1 .left)) (and-is _ _ ∙ ap (both (entry .args .functional)) (c .is-quiet .ensures))
 
 pub silent-spec : {M : Type 1} → statement M
 silent-spec = tie.close (tie.spec

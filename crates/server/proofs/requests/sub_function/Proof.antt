@@ -8,7 +8,7 @@ use Rattle.server.proofs.requests.sub_function.Tie as tie
 
 returns : tie.Need-returns
 unfolding subFunctionOf
-returns c = ap (λ (x : ℕ). x % 128) ((c .second .ensures))
+returns c = ap (λ (x : ℕ). x % 128) (c .second .ensures)
 
 pub sub-function-spec : {M : Type 1} → statement M
 sub-function-spec = tie.close (tie.spec

@@ -15,55 +15,89 @@ use Rattle.server.proofs.serving.respond.Tie as tie
 
 returns : tie.Need-returns
 returns c =
-    let t = recordOf ((c .before .before .before .before .before .args .codes) .now) ((c .before .before .before .before .before .args .t2)) ((c .before .before .before .before .before .args .count)) ((c .before .before .before .before .before .args .availability)) ((c .before .before .before .before .before .args .identifiers) .now) ((c .before .before .before .before .before .args .lengths) .now) ((c .before .before .before .before .before .args .bytes) .now) ((c .before .before .before .before .before .args .held)) in
-    let law = outcome-17 t ((c .before .before .before .before .before .args .request) .now) ((c .before .before .before .before .before .args .functional)) ((c .before .before .before .before .before .args .response) .now) ((c .before .before .before .before .before .pre)) (sym ((c .before .before .wrong-lengths .ensures)) ∙ (c .before .if1 .taken)) in
+    let entry = c .before .before .before .before .before in
+    let t = recordOf ((entry .args .codes) .now) (entry .args .t2) (entry .args .count) (entry .args .availability) ((entry .args .identifiers) .now) ((entry .args .lengths) .now) ((entry .args .bytes) .now) (entry .args .held) in
+    let law = outcome-17 t ((entry .args .request) .now) (entry .args .functional) ((entry .args .response) .now) (entry .pre) (sym (c .before .before .wrong-lengths .ensures) ∙ (c .before .if1 .taken)) in
     ((c .leaves .ensures) .0 ∙ sym (ap (λ (o : Outcome). o .after .statuses) law), ((c .leaves .ensures) .1 ∙ sym (ap (λ (o : Outcome). o .answer) law), sym (ap (λ (o : Outcome). o .response) law)))
 
 negative-requires : tie.Need-negative-requires
 negative-requires c κs =
-    let s = sound-has _ ((c .before .before .before .before .before .pre)) in
-    let l = right-lengths _ _ (sym ((c .before .before .wrong-lengths .ensures)) ∙ (c .before .if1 .left)) in
+    let entry = c .before .before .before .before .before in
+    let s = sound-has _ (entry .pre) in
+    let l = right-lengths _ _ (sym (c .before .before .wrong-lengths .ensures) ∙ (c .before .if1 .left)) in
     (s .count, (s .held, (l .0, l .1 .0)))
 
 returns-2 : tie.Need-returns-2
 unfolding negativeOf
 returns-2 c =
-    let t = recordOf ((c .before .before .before .before .before .before .before .before .before .args .codes) .now) ((c .before .before .before .before .before .before .before .before .before .args .t2)) ((c .before .before .before .before .before .before .before .before .before .args .count)) ((c .before .before .before .before .before .before .before .before .before .args .availability)) ((c .before .before .before .before .before .before .before .before .before .args .identifiers) .now) ((c .before .before .before .before .before .before .before .before .before .args .lengths) .now) ((c .before .before .before .before .before .before .before .before .before .args .bytes) .now) ((c .before .before .before .before .before .before .before .before .before .args .held)) in
-    let law = outcome-silent t ((c .before .before .before .before .before .before .before .before .before .args .request) .now) ((c .before .before .before .before .before .before .before .before .before .args .functional)) ((c .before .before .before .before .before .before .before .before .before .args .response) .now) ((c .before .before .before .before .before .before .before .before .before .pre)) (sym ((c .before .before .before .before .before .before .wrong-lengths .ensures)) ∙ (c .before .before .before .before .before .if1 .left)) (ap (silentOn ((c .before .before .before .before .before .before .before .before .before .args .request) .now) ((c .before .before .before .before .before .before .before .before .before .args .functional))) (sym ((c .before .before .before .negative .ensures))) ∙ sym ((c .before .before .silent .ensures)) ∙ (c .before .if2 .taken)) in
+    let at-negative = c .before .before .before in
+    let at-if1 = at-negative .before .before in
+    let at-wrong-lengths = at-if1 .before in
+    let entry = at-wrong-lengths .before .before .before in
+    let t = recordOf ((entry .args .codes) .now) (entry .args .t2) (entry .args .count) (entry .args .availability) ((entry .args .identifiers) .now) ((entry .args .lengths) .now) ((entry .args .bytes) .now) (entry .args .held) in
+    let law = outcome-silent t ((entry .args .request) .now) (entry .args .functional) ((entry .args .response) .now) (entry .pre) (sym (at-wrong-lengths .wrong-lengths .ensures) ∙ (at-if1 .if1 .left)) (ap (silentOn ((entry .args .request) .now) (entry .args .functional)) (sym (at-negative .negative .ensures)) ∙ sym (c .before .before .silent .ensures) ∙ (c .before .if2 .taken)) in
     ((c .leaves2 .ensures) .0 ∙ sym (ap (λ (o : Outcome). o .after .statuses) law), ((c .leaves2 .ensures) .1 ∙ sym (ap (λ (o : Outcome). o .answer) law), sym (ap (λ (o : Outcome). o .response) law)))
 
 put-negative-requires : tie.Need-put-negative-requires
-put-negative-requires c κs = right-lengths _ _ (sym ((c .before .before .before .before .before .before .before .before .wrong-lengths .ensures)) ∙ (c .before .before .before .before .before .before .before .if1 .left)) .1 .1
+put-negative-requires c κs =
+    let at-if1 = c .before .before .before .before .before .before .before in
+    let at-wrong-lengths = at-if1 .before in
+    right-lengths _ _ (sym (at-wrong-lengths .wrong-lengths .ensures) ∙ (at-if1 .if1 .left)) .1 .1
 
 returns-3 : tie.Need-returns-3
 unfolding negativeOf negativeBytes
 returns-3 c =
-    let t = recordOf ((c .before .before .before .before .before .before .before .before .before .before .before .before .before .before .before .args .codes) .now) ((c .before .before .before .before .before .before .before .before .before .before .before .before .before .before .before .args .t2)) ((c .before .before .before .before .before .before .before .before .before .before .before .before .before .before .before .args .count)) ((c .before .before .before .before .before .before .before .before .before .before .before .before .before .before .before .args .availability)) ((c .before .before .before .before .before .before .before .before .before .before .before .before .before .before .before .args .identifiers) .now) ((c .before .before .before .before .before .before .before .before .before .before .before .before .before .before .before .args .lengths) .now) ((c .before .before .before .before .before .before .before .before .before .before .before .before .before .before .before .args .bytes) .now) ((c .before .before .before .before .before .before .before .before .before .before .before .before .before .before .before .args .held)) in
-    let law = outcome-negative t ((c .before .before .before .before .before .before .before .before .before .before .before .before .before .before .before .args .request) .now) ((c .before .before .before .before .before .before .before .before .before .before .before .before .before .before .before .args .functional)) ((c .before .before .before .before .before .before .before .before .before .before .before .before .before .before .before .args .response) .now) ((c .before .before .before .before .before .before .before .before .before .before .before .before .before .before .before .pre)) (sym ((c .before .before .before .before .before .before .before .before .before .before .before .before .wrong-lengths .ensures)) ∙ (c .before .before .before .before .before .before .before .before .before .before .before .if1 .left)) (ap (silentOn ((c .before .before .before .before .before .before .before .before .before .before .before .before .before .before .before .args .request) .now) ((c .before .before .before .before .before .before .before .before .before .before .before .before .before .before .before .args .functional))) (sym ((c .before .before .before .before .before .before .before .before .before .negative .ensures))) ∙ sym ((c .before .before .before .before .before .before .before .before .silent .ensures)) ∙ (c .before .before .before .before .before .before .before .if2 .left)) (λ q. (c .before .before .before .before .before .before .if3 .taken) ((c .before .before .before .before .before .before .before .before .before .negative .ensures) ∙ q)) in
-    let put = (c .before .before .before .put-negative .ensures) in
-    let bytes = ap (λ (s : ℕ). negativeBytes s ((c .before .before .before .before .before .before .before .before .before .negative .result))) ((c .before .before .before .before .service .ensures)) ∙ ap (negativeBytes (serviceOf ((c .before .before .before .before .before .before .before .before .before .before .before .before .before .before .before .args .request) .now))) ((c .before .before .before .before .before .before .before .before .before .negative .ensures)) in (
+    let at-put-negative = c .before .before .before in
+    let at-service = at-put-negative .before in
+    let at-if3 = at-service .before .before in
+    let at-if2 = at-if3 .before in
+    let at-silent = at-if2 .before in
+    let at-negative = at-silent .before in
+    let at-if1 = at-negative .before .before in
+    let at-wrong-lengths = at-if1 .before in
+    let entry = at-wrong-lengths .before .before .before in
+    let t = recordOf ((entry .args .codes) .now) (entry .args .t2) (entry .args .count) (entry .args .availability) ((entry .args .identifiers) .now) ((entry .args .lengths) .now) ((entry .args .bytes) .now) (entry .args .held) in
+    let law = outcome-negative t ((entry .args .request) .now) (entry .args .functional) ((entry .args .response) .now) (entry .pre) (sym (at-wrong-lengths .wrong-lengths .ensures) ∙ (at-if1 .if1 .left)) (ap (silentOn ((entry .args .request) .now) (entry .args .functional)) (sym (at-negative .negative .ensures)) ∙ sym (at-silent .silent .ensures) ∙ (at-if2 .if2 .left)) (λ q. (at-if3 .if3 .taken) ((at-negative .negative .ensures) ∙ q)) in
+    let put = (at-put-negative .put-negative .ensures) in
+    let bytes = ap (λ (s : ℕ). negativeBytes s (at-negative .negative .result)) (at-service .service .ensures) ∙ ap (negativeBytes (serviceOf ((entry .args .request) .now))) (at-negative .negative .ensures) in (
       (c .leaves3 .ensures) .0 ∙ sym (ap (λ (o : Outcome). o .after .statuses) law),
       (
         (c .leaves3 .ensures) .1 ∙ ap Sent (put .ends) ∙ sym (ap (λ (o : Outcome). o .answer) law),
-        put .holds ∙ ap (written ((c .before .before .before .before .before .before .before .before .before .before .before .before .before .before .before .args .response) .now) 0) bytes ∙ sym (ap (λ (o : Outcome). o .response) law),
+        put .holds ∙ ap (written ((entry .args .response) .now) 0) bytes ∙ sym (ap (λ (o : Outcome). o .response) law),
       ),
     )
 
 put-positive-requires : tie.Need-put-positive-requires
 put-positive-requires c κs =
-    let s = sound-has _ ((c .before .before .before .before .before .before .before .before .before .before .before .pre)) in
-    let l = right-lengths _ _ (sym ((c .before .before .before .before .before .before .before .before .wrong-lengths .ensures)) ∙ (c .before .before .before .before .before .before .before .if1 .left)) in
-    (s .count, (s .held, (s .lengths, (l .0, (l .1 .1, (sym ((c .before .before .before .before .before .negative .ensures)) ∙ (c .before .before .if3 .left)))))))
+    let at-negative = c .before .before .before .before .before in
+    let at-if1 = at-negative .before .before in
+    let at-wrong-lengths = at-if1 .before in
+    let entry = at-wrong-lengths .before .before .before in
+    let s = sound-has _ (entry .pre) in
+    let l = right-lengths _ _ (sym (at-wrong-lengths .wrong-lengths .ensures) ∙ (at-if1 .if1 .left)) in
+    (s .count, (s .held, (s .lengths, (l .0, (l .1 .1, (sym (at-negative .negative .ensures) ∙ (c .before .before .if3 .left)))))))
 
 statuses-after-requires : tie.Need-statuses-after-requires
-statuses-after-requires c κs = (sound-has _ ((c .before .before .before .before .before .before .before .before .before .before .before .before .before .before .pre)) .count, positive-form _ _ _ _ _ _ _ _ (sym ((c .before .before .before .before .before .before .before .before .negative .ensures)) ∙ (c .before .before .before .before .before .if3 .left)) .0)
+statuses-after-requires c κs =
+    let at-if3 = c .before .before .before .before .before in
+    let at-negative = at-if3 .before .before .before in
+    let entry = at-negative .before .before .before .before .before .before in
+    (sound-has _ (entry .pre) .count, positive-form _ _ _ _ _ _ _ _ (sym (at-negative .negative .ensures) ∙ (at-if3 .if3 .left)) .0)
 
 returns-4 : tie.Need-returns-4
 unfolding negativeOf positiveOf withStatuses
 returns-4 c =
-    let t = recordOf ((c .before .before .before .before .before .before .before .before .before .before .before .before .before .before .before .before .args .codes) .now) ((c .before .before .before .before .before .before .before .before .before .before .before .before .before .before .before .before .args .t2)) ((c .before .before .before .before .before .before .before .before .before .before .before .before .before .before .before .before .args .count)) ((c .before .before .before .before .before .before .before .before .before .before .before .before .before .before .before .before .args .availability)) ((c .before .before .before .before .before .before .before .before .before .before .before .before .before .before .before .before .args .identifiers) .now) ((c .before .before .before .before .before .before .before .before .before .before .before .before .before .before .before .before .args .lengths) .now) ((c .before .before .before .before .before .before .before .before .before .before .before .before .before .before .before .before .args .bytes) .now) ((c .before .before .before .before .before .before .before .before .before .before .before .before .before .before .before .before .args .held)) in
-    let law = outcome-positive t ((c .before .before .before .before .before .before .before .before .before .before .before .before .before .before .before .before .args .request) .now) ((c .before .before .before .before .before .before .before .before .before .before .before .before .before .before .before .before .args .functional)) ((c .before .before .before .before .before .before .before .before .before .before .before .before .before .before .before .before .args .response) .now) ((c .before .before .before .before .before .before .before .before .before .before .before .before .before .before .before .before .pre)) (sym ((c .before .before .before .before .before .before .before .before .before .before .before .before .before .wrong-lengths .ensures)) ∙ (c .before .before .before .before .before .before .before .before .before .before .before .before .if1 .left)) (ap (silentOn ((c .before .before .before .before .before .before .before .before .before .before .before .before .before .before .before .before .args .request) .now) ((c .before .before .before .before .before .before .before .before .before .before .before .before .before .before .before .before .args .functional))) (sym ((c .before .before .before .before .before .before .before .before .before .before .negative .ensures))) ∙ sym ((c .before .before .before .before .before .before .before .before .before .silent .ensures)) ∙ (c .before .before .before .before .before .before .before .before .if2 .left)) (sym ((c .before .before .before .before .before .before .before .before .before .before .negative .ensures)) ∙ (c .before .before .before .before .before .before .before .if3 .left)) in
-    let put = (c .before .before .before .before .put-positive .ensures) in (
+    let at-put-positive = c .before .before .before .before in
+    let at-if3 = at-put-positive .before .before .before in
+    let at-if2 = at-if3 .before in
+    let at-silent = at-if2 .before in
+    let at-negative = at-silent .before in
+    let at-if1 = at-negative .before .before in
+    let at-wrong-lengths = at-if1 .before in
+    let entry = at-wrong-lengths .before .before .before in
+    let t = recordOf ((entry .args .codes) .now) (entry .args .t2) (entry .args .count) (entry .args .availability) ((entry .args .identifiers) .now) ((entry .args .lengths) .now) ((entry .args .bytes) .now) (entry .args .held) in
+    let law = outcome-positive t ((entry .args .request) .now) (entry .args .functional) ((entry .args .response) .now) (entry .pre) (sym (at-wrong-lengths .wrong-lengths .ensures) ∙ (at-if1 .if1 .left)) (ap (silentOn ((entry .args .request) .now) (entry .args .functional)) (sym (at-negative .negative .ensures)) ∙ sym (at-silent .silent .ensures) ∙ (at-if2 .if2 .left)) (sym (at-negative .negative .ensures) ∙ (at-if3 .if3 .left)) in
+    let put = (at-put-positive .put-positive .ensures) in (
       (c .leaves4 .ensures) .0 ∙ (c .before .statuses-after .ensures) ∙ sym (ap (λ (o : Outcome). o .after .statuses) law),
       (
         (c .leaves4 .ensures) .1 ∙ ap Sent (put .ends ∙ zero-add _) ∙ sym (ap (λ (o : Outcome). o .answer) law),

@@ -13,16 +13,23 @@ use Rattle.server.proofs.serving.serve.Tie as tie
 returns : tie.Need-returns
 unfolding soundRecord
 returns c =
-    let law = outcome-1 ((c .before .before .before .before .before .before .before .before .before .args .t1)) ((c .before .before .before .before .before .before .before .before .before .args .request) .now) ((c .before .before .before .before .before .before .before .before .before .args .functional)) ((c .before .before .before .before .before .before .before .before .before .args .response) .now) (sym ((c .before .sound .ensures)) ∙ not-true _ ((c .if1 .taken))) in
+    let entry = c .before .before .before .before .before .before .before .before .before in
+    let law = outcome-1 (entry .args .t1) ((entry .args .request) .now) (entry .args .functional) ((entry .args .response) .now) (sym (c .before .sound .ensures) ∙ not-true _ (c .if1 .taken)) in
     (sym (ap (λ (o : Outcome). o .after) law), (sym (ap (λ (o : Outcome). o .answer) law), sym (ap (λ (o : Outcome). o .response) law)))
 
 respond-requires : tie.Need-respond-requires
 unfolding soundRecord
-respond-requires c κs = sym ((c .before .before .before .before .before .before .before .before .sound .ensures)) ∙ not-false _ ((c .before .before .before .before .before .before .before .if1 .left))
+respond-requires c κs =
+    let at-if1 = c .before .before .before .before .before .before .before in
+    let at-sound = at-if1 .before in
+    sym (at-sound .sound .ensures) ∙ not-false _ (at-if1 .if1 .left)
 
 returns-2 : tie.Need-returns-2
 unfolding withStatuses
-returns-2 c = (ap (withStatuses ((c .before .before .before .before .before .before .before .before .before .before .before .before .before .before .before .before .before .before .before .before .args .t1))) ((c .before .before .before .respond .ensures) .0) ∙ sym (only-statuses ((c .before .before .before .before .before .before .before .before .before .before .before .before .before .before .before .before .before .before .before .before .args .t1)) ((c .before .before .before .before .before .before .before .before .before .before .before .before .before .before .before .before .before .before .before .before .args .request) .now) ((c .before .before .before .before .before .before .before .before .before .before .before .before .before .before .before .before .before .before .before .before .args .functional)) ((c .before .before .before .before .before .before .before .before .before .before .before .before .before .before .before .before .before .before .before .before .args .response) .now)), ((c .before .before .before .respond .ensures) .1 .0, (c .before .before .before .respond .ensures) .1 .1))
+returns-2 c =
+    let at-respond = c .before .before .before in
+    let entry = at-respond .before .before .before .before .before .before .before .before .before .before .before .before .before .before .before .before .before in
+    (ap (withStatuses (entry .args .t1)) ((at-respond .respond .ensures) .0) ∙ sym (only-statuses (entry .args .t1) ((entry .args .request) .now) (entry .args .functional) ((entry .args .response) .now)), ((at-respond .respond .ensures) .1 .0, (at-respond .respond .ensures) .1 .1))
 
 pub serve-spec : {M : Type 1} → statement M
 serve-spec = tie.close (tie.spec

@@ -13,15 +13,20 @@ use Rattle.server.proofs.serving.statuses_after.Statement.{statement}
 use Rattle.server.proofs.serving.statuses_after.Tie as tie
 
 group-requires : tie.Need-group-requires
-group-requires c κs = length-14 _ ((c .before .before .before .pre) .1) (sym ((c .before .service .ensures)) ∙ (c .if1 .taken))
+group-requires c κs =
+    let entry = c .before .before .before in
+    length-14 _ ((entry .pre) .1) (sym (c .before .service .ensures) ∙ (c .if1 .taken))
 
 returns : tie.Need-returns
 unfolding statusesAfter
-returns c = taken _ (eq-eqb _ 0x14 (sym ((c .before .before .before .service .ensures)) ∙ (c .before .before .if1 .taken))) ((c .cleared .ensures) ∙ ap (λ (g : ℕ). clearedBelow ((c .before .before .before .before .before .args .codes) .now) ((c .before .before .before .before .before .args .statuses)) g (bitAnd 0x50 ((c .before .before .before .before .before .args .availability))) ((c .before .before .before .before .before .args .count))) ((c .before .group .ensures)))
+returns c =
+    let at-service = c .before .before .before in
+    let entry = at-service .before .before in
+    taken _ (eq-eqb _ 0x14 (sym (at-service .service .ensures) ∙ (c .before .before .if1 .taken))) ((c .cleared .ensures) ∙ ap (λ (g : ℕ). clearedBelow ((entry .args .codes) .now) (entry .args .statuses) g (bitAnd 0x50 (entry .args .availability)) (entry .args .count)) (c .before .group .ensures))
 
 returns-2 : tie.Need-returns-2
 unfolding statusesAfter
-returns-2 c = passed _ (ap (λ (x : ℕ). eqb x 0x14) (sym ((c .before .service .ensures))) ∙ ne-eqb _ _ ((c .if1 .left))) refl
+returns-2 c = passed _ (ap (λ (x : ℕ). eqb x 0x14) (sym (c .before .service .ensures)) ∙ ne-eqb _ _ (c .if1 .left)) refl
 
 pub statuses-after-spec : {M : Type 1} → statement M
 statuses-after-spec = tie.close (tie.spec

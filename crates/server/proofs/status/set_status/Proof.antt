@@ -19,34 +19,53 @@ use Rattle.server.proofs.status.set_status.Tie as tie
 returns : tie.Need-returns
 unfolding soundRecord
 returns c =
-    let law = setting-1 ((c .before .before .before .before .before .before .before .args .t1)) ((c .before .before .before .before .before .before .before .args .code)) ((c .before .before .before .before .before .before .before .args .status)) (sym ((c .before .sound .ensures)) ∙ not-true _ ((c .if1 .taken))) in
+    let entry = c .before .before .before .before .before .before .before in
+    let law = setting-1 (entry .args .t1) (entry .args .code) (entry .args .status) (sym (c .before .sound .ensures) ∙ not-true _ (c .if1 .taken)) in
     (sym (ap (λ (s : Setting). s .after) law), sym (ap (λ (s : Setting). s .answer) law))
 
 place-requires : tie.Need-place-requires
 unfolding soundRecord
-place-requires c κs = sound-has ((c .before .before .before .before .before .before .before .before .before .args .t1)) (sym ((c .before .before .before .sound .ensures)) ∙ not-false _ ((c .before .before .if1 .left))) .count
+place-requires c κs =
+    let at-sound = c .before .before .before in
+    let entry = at-sound .before .before .before .before .before .before in
+    sound-has (entry .args .t1) (sym (at-sound .sound .ensures) ∙ not-false _ (c .before .before .if1 .left)) .count
 
 returns-2 : tie.Need-returns-2
 unfolding soundRecord heldAmong
 returns-2 c =
-    let law = setting-18 ((c .before .before .before .before .before .before .before .before .before .before .before .args .t1)) ((c .before .before .before .before .before .before .before .before .before .before .before .args .code)) ((c .before .before .before .before .before .before .before .before .before .before .before .args .status)) (sym ((c .before .before .before .before .before .sound .ensures)) ∙ not-false _ ((c .before .before .before .before .if1 .left))) (ap (λ (i : ℕ). ltb i ((c .before .before .before .before .before .before .before .before .before .before .before .args .t1) .count)) (sym ((c .before .place .ensures))) ∙ le-ltb _ _ ((c .if2 .taken))) in
+    let at-if1 = c .before .before .before .before in
+    let at-sound = at-if1 .before in
+    let entry = at-sound .before .before .before .before .before .before in
+    let law = setting-18 (entry .args .t1) (entry .args .code) (entry .args .status) (sym (at-sound .sound .ensures) ∙ not-false _ (at-if1 .if1 .left)) (ap (λ (i : ℕ). ltb i ((entry .args .t1) .count)) (sym (c .before .place .ensures)) ∙ le-ltb _ _ (c .if2 .taken)) in
     (sym (ap (λ (s : Setting). s .after) law), sym (ap (λ (s : Setting). s .answer) law))
 
 returns-3 : tie.Need-returns-3
 unfolding soundRecord heldAmong
 returns-3 c =
-    let law = setting-19 ((c .before .before .before .before .before .before .before .before .before .before .before .before .before .args .t1)) ((c .before .before .before .before .before .before .before .before .before .before .before .before .before .args .code)) ((c .before .before .before .before .before .before .before .before .before .before .before .before .before .args .status)) (sym ((c .before .before .before .before .before .before .before .sound .ensures)) ∙ not-false _ ((c .before .before .before .before .before .before .if1 .left))) (ap (λ (i : ℕ). ltb i ((c .before .before .before .before .before .before .before .before .before .before .before .before .before .args .t1) .count)) (sym ((c .before .before .before .place .ensures))) ∙ lt-ltb _ _ ((c .before .before .if2 .left))) (sym ((c .before .status-within .ensures)) ∙ not-true _ ((c .if3 .taken))) in
+    let at-place = c .before .before .before in
+    let at-if1 = at-place .before .before .before in
+    let at-sound = at-if1 .before in
+    let entry = at-sound .before .before .before .before .before .before in
+    let law = setting-19 (entry .args .t1) (entry .args .code) (entry .args .status) (sym (at-sound .sound .ensures) ∙ not-false _ (at-if1 .if1 .left)) (ap (λ (i : ℕ). ltb i ((entry .args .t1) .count)) (sym (at-place .place .ensures)) ∙ lt-ltb _ _ (c .before .before .if2 .left)) (sym (c .before .status-within .ensures) ∙ not-true _ (c .if3 .taken)) in
     (sym (ap (λ (s : Setting). s .after) law), sym (ap (λ (s : Setting). s .answer) law))
 
 element-write-after : tie.Need-element-write-after
 unfolding soundRecord
-element-write-after c = omega (arith, sound-has ((c .before .before .before .before .before .before .before .before .before .before .before .before .before .args .t1)) (sym ((c .before .before .before .before .before .before .before .sound .ensures)) ∙ not-false _ ((c .before .before .before .before .before .before .if1 .left))) .count)
+element-write-after c =
+    let at-if1 = c .before .before .before .before .before .before in
+    let at-sound = at-if1 .before in
+    let entry = at-sound .before .before .before .before .before .before in
+    omega (arith, sound-has (entry .args .t1) (sym (at-sound .sound .ensures) ∙ not-false _ (at-if1 .if1 .left)) .count)
 
 returns-4 : tie.Need-returns-4
 unfolding soundRecord heldAmong withStatuses
 returns-4 c =
-    let law = setting-set ((c .before .before .before .before .before .before .before .before .before .before .before .before .before .args .t1)) ((c .before .before .before .before .before .before .before .before .before .before .before .before .before .args .code)) ((c .before .before .before .before .before .before .before .before .before .before .before .before .before .args .status)) (sym ((c .before .before .before .before .before .before .before .sound .ensures)) ∙ not-false _ ((c .before .before .before .before .before .before .if1 .left))) (ap (λ (i : ℕ). ltb i ((c .before .before .before .before .before .before .before .before .before .before .before .before .before .args .t1) .count)) (sym ((c .before .before .before .place .ensures))) ∙ lt-ltb _ _ ((c .before .before .if2 .left))) (sym ((c .before .status-within .ensures)) ∙ not-false _ ((c .if3 .left))) in
-    (ap (λ (i : ℕ). withStatuses ((c .before .before .before .before .before .before .before .before .before .before .before .before .before .args .t1)) (set ((c .before .before .before .before .before .before .before .before .before .before .before .before .before .args .t1) .statuses) i ((c .before .before .before .before .before .before .before .before .before .before .before .before .before .args .status)))) ((c .before .before .before .place .ensures)) ∙ sym (ap (λ (s : Setting). s .after) law), sym (ap (λ (s : Setting). s .answer) law))
+    let at-place = c .before .before .before in
+    let at-if1 = at-place .before .before .before in
+    let at-sound = at-if1 .before in
+    let entry = at-sound .before .before .before .before .before .before in
+    let law = setting-set (entry .args .t1) (entry .args .code) (entry .args .status) (sym (at-sound .sound .ensures) ∙ not-false _ (at-if1 .if1 .left)) (ap (λ (i : ℕ). ltb i ((entry .args .t1) .count)) (sym (at-place .place .ensures)) ∙ lt-ltb _ _ (c .before .before .if2 .left)) (sym (c .before .status-within .ensures) ∙ not-false _ (c .if3 .left)) in
+    (ap (λ (i : ℕ). withStatuses (entry .args .t1) (set ((entry .args .t1) .statuses) i (entry .args .status))) (at-place .place .ensures) ∙ sym (ap (λ (s : Setting). s .after) law), sym (ap (λ (s : Setting). s .answer) law))
 
 pub set-status-spec : {M : Type 1} → statement M
 set-status-spec = tie.close (tie.spec

@@ -23,7 +23,10 @@ loop-holds : tie.Need-loop-holds Inv-loop μ-loop
 loop-holds c = (search needs, sym (all-none _))
 
 loop-again : tie.Need-loop-again Inv-loop μ-loop
-loop-again c = let n = getD ((c .before .before .before .before .args .lengths) .now) ((c .before .before .before .loop .k)) 0 in (search needs, rw (and-is (leb 1 n) (leb n 32)) (all-turn _ _ ((c .before .before .before .loop .inv) .1)))
+loop-again c =
+    let at-loop = c .before .before .before in
+    let entry = at-loop .before in
+    let n = getD ((entry .args .lengths) .now) (at-loop .loop .k) 0 in (search needs, rw (and-is (leb 1 n) (leb n 32)) (all-turn _ _ ((at-loop .loop .inv) .1)))
 
 returns : tie.Need-returns Inv-loop μ-loop
 unfolding lengthsWithin

@@ -10,15 +10,21 @@ use Rattle.server.proofs.trailer.sound.Tie as tie
 
 returns : tie.Need-returns
 unfolding soundFields
-returns c = stop _ (sym (stop _ (lt-leb _ _ ((c .if1 .taken)))))
+returns c = stop _ (sym (stop _ (lt-leb _ _ (c .if1 .taken))))
 
 returns-2 : tie.Need-returns-2
 unfolding soundFields
-returns-2 c = stop _ (sym (so (le-leb _ _ ((c .before .if1 .left))) (sym (lt-leb _ _ ((c .if2 .taken))))))
+returns-2 c = stop _ (sym (so (le-leb _ _ (c .before .if1 .left)) (sym (lt-leb _ _ (c .if2 .taken)))))
 
 returns-3 : tie.Need-returns-3
 unfolding soundFields
-returns-3 c = so (sym (so (le-leb _ _ ((c .before .before .before .before .before .before .before .if1 .left))) (sym (le-leb _ _ ((c .before .before .before .before .before .before .if2 .left)))))) (rw ((c .before .before .before .before .before .mask-kept .ensures), (c .before .before .before .before .codes-below .ensures), (c .before .before .before .codes-ascend .ensures), (c .before .before .statuses-within .ensures), (c .before .identifiers-ascend .ensures), (c .lengths-within .ensures)) (six-tests _ _ _ _ _ _))
+returns-3 c =
+    let at-codes-ascend = c .before .before .before in
+    let at-codes-below = at-codes-ascend .before in
+    let at-mask-kept = at-codes-below .before in
+    let at-if2 = at-mask-kept .before in
+    let at-if1 = at-if2 .before in
+    so (sym (so (le-leb _ _ (at-if1 .if1 .left)) (sym (le-leb _ _ (at-if2 .if2 .left))))) (rw ((at-mask-kept .mask-kept .ensures), (at-codes-below .codes-below .ensures), (at-codes-ascend .codes-ascend .ensures), (c .before .before .statuses-within .ensures), (c .before .identifiers-ascend .ensures), (c .lengths-within .ensures)) (six-tests _ _ _ _ _ _))
 
 pub sound-spec : {M : Type 1} → statement M
 sound-spec = tie.close (tie.spec

@@ -7,7 +7,9 @@ use Rattle.sheet.proofs.fields.content_kept.Statement.{statement}
 use Rattle.sheet.proofs.fields.content_kept.Tie as tie
 
 shared-slice-read-position-kept : tie.Need-shared-slice-read-position-kept
-shared-slice-read-position-kept c = let n : (c .before .before .before .args .tag) ≡ 3 → ⊥ = (λ e. omega arith) in omega (arith, size-other _ n)
+shared-slice-read-position-kept c =
+    let entry = c .before .before .before in
+    let n : (entry .args .tag) ≡ 3 → ⊥ = (λ e. omega arith) in omega (arith, size-other _ n)
 
 returns : tie.Need-returns
 returns c = (c .position-kept .ensures) ∙ sym (content-position _ _ _ (c .before .before .if1 .taken))

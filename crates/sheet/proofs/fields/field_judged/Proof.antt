@@ -13,13 +13,19 @@ wrong-form-requires : tie.Need-wrong-form-requires
 wrong-form-requires c κs = sym (c .before .cut-short .ensures) ∙ (c .if1 .left)
 
 returns-2 : tie.Need-returns-2
-returns-2 c = sym (field-23 _ _ _ (sym (c .before .before .before .cut-short .ensures) ∙ (c .before .before .if1 .left)) (sym (c .before .wrong-form .ensures) ∙ (c .if2 .taken)))
+returns-2 c =
+    let at-cut-short = c .before .before .before in
+    sym (field-23 _ _ _ (sym (at-cut-short .cut-short .ensures) ∙ (c .before .before .if1 .left)) (sym (c .before .wrong-form .ensures) ∙ (c .if2 .taken)))
 
 add-content-kept : tie.Need-add-content-kept
-add-content-kept c = omega (arith, uncut-head _ _ (sym (c .before .before .before .cut-short .ensures) ∙ (c .before .before .if1 .left)))
+add-content-kept c =
+    let at-cut-short = c .before .before .before in
+    omega (arith, uncut-head _ _ (sym (at-cut-short .cut-short .ensures) ∙ (c .before .before .if1 .left)))
 
 content-kept-requires : tie.Need-content-kept-requires
-content-kept-requires c κs = content-stands _ _ _ (sym (c .before .before .before .cut-short .ensures) ∙ (c .before .before .if1 .left)) (sym (c .before .wrong-form .ensures) ∙ (c .if2 .left))
+content-kept-requires c κs =
+    let at-cut-short = c .before .before .before in
+    content-stands _ _ _ (sym (at-cut-short .cut-short .ensures) ∙ (c .before .before .if1 .left)) (sym (c .before .wrong-form .ensures) ∙ (c .if2 .left))
 
 returns-3 : tie.Need-returns-3
 returns-3 c =

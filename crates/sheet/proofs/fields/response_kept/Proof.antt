@@ -16,7 +16,9 @@ returns-2 c = so (eq-eqb _ _ (c .before .before .if1 .left)) (stop _ (ne-eqb _ _
 
 returns-3 : tie.Need-returns-3
 unfolding responseKept
-returns-3 c = so (eq-eqb _ _ (c .before .before .before .before .if1 .left)) (so (eq-eqb _ _ (c .before .before .if2 .left)) (stop _ (ne-eqb _ _ (c .if3 .taken))))
+returns-3 c =
+    let at-if1 = c .before .before .before .before in
+    so (eq-eqb _ _ (at-if1 .if1 .left)) (so (eq-eqb _ _ (c .before .before .if2 .left)) (stop _ (ne-eqb _ _ (c .if3 .taken))))
 
 returns-4 : tie.Need-returns-4
 unfolding responseKept

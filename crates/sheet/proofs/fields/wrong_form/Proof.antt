@@ -18,20 +18,30 @@ unfolding wrongForm
 returns c = left-holds _ (ap not (ne-eqb _ _ (c .if1 .taken)))
 
 add-high : tie.Need-add-high
-add-high c = omega (arith, uncut-head _ _ (c .before .before .before .pre))
+add-high c =
+    let entry = c .before .before .before in
+    omega (arith, uncut-head _ _ (entry .pre))
 
 shared-slice-read-pair : tie.Need-shared-slice-read-pair
-shared-slice-read-pair c = omega (arith, uncut-head _ _ (c .before .before .before .before .pre))
+shared-slice-read-pair c =
+    let entry = c .before .before .before .before in
+    omega (arith, uncut-head _ _ (entry .pre))
 
 add-pair : tie.Need-add-pair
-add-pair c = omega (arith, uncut-head _ _ (c .before .before .before .before .pre))
+add-pair c =
+    let entry = c .before .before .before .before in
+    omega (arith, uncut-head _ _ (entry .pre))
 
 shared-slice-read-pair-2 : tie.Need-shared-slice-read-pair-2
-shared-slice-read-pair-2 c = omega (arith, uncut-head _ _ (c .before .before .before .before .before .pre))
+shared-slice-read-pair-2 c =
+    let entry = c .before .before .before .before .before in
+    omega (arith, uncut-head _ _ (entry .pre))
 
 returns-2 : tie.Need-returns-2
 unfolding wrongForm
-returns-2 c = rw ((c .before .pair .ensures), (c .size-of .ensures)) (right-decides (ap not (eq-eqb _ _ (c .before .before .before .before .if1 .left))) refl)
+returns-2 c =
+    let at-if1 = c .before .before .before .before in
+    rw ((c .before .pair .ensures), (c .size-of .ensures)) (right-decides (ap not (eq-eqb _ _ (at-if1 .if1 .left))) refl)
 
 pub wrong-form-spec : {M : Type 1} → statement M
 wrong-form-spec =

@@ -32,7 +32,9 @@ returns-2 c =
 
 loop-again : tie.Need-loop-again Inv-loop μ-loop
 unfolding fieldAt fieldOffset fieldTag
-loop-again c = (search needs, first-more _ _ (c .before .before .before .before .loop .inv .1) (sym (c .before .before .field-judged .ensures) ∙ (c .enum-told .given .1)))
+loop-again c =
+    let at-loop = c .before .before .before .before in
+    (search needs, first-more _ _ (at-loop .loop .inv .1) (sym (c .before .before .field-judged .ensures) ∙ (c .enum-told .given .1)))
 
 returns-3 : tie.Need-returns-3 Inv-loop μ-loop
 unfolding fieldsBegun

@@ -21,10 +21,14 @@ loop-holds : tie.Need-loop-holds Inv-loop μ-loop
 loop-holds c = (search needs, (omega arith, rw (list-none _) (puts-none _ _)))
 
 loop-again : tie.Need-loop-again Inv-loop μ-loop
-loop-again c = (search needs, (omega (arith, (c .put-line .ensures .0)), turn _ _ (c .before .before .before .before .loop .inv .1 .1) (ap lineOf (c .before .reading-of .ensures)) (c .put-line .ensures .1)))
+loop-again c =
+    let at-loop = c .before .before .before .before in
+    (search needs, (omega (arith, (c .put-line .ensures .0)), turn _ _ (at-loop .loop .inv .1 .1) (ap lineOf (c .before .reading-of .ensures)) (c .put-line .ensures .1)))
 
 returns : tie.Need-returns Inv-loop μ-loop
-returns c = let e : (c .before .before .before .args .readings) ≡ (c .before .loop .number) = omega arith in rw e (c .before .loop .inv .1 .1)
+returns c =
+    let entry = c .before .before .before in
+    let e : (entry .args .readings) ≡ (c .before .loop .number) = omega arith in rw e (c .before .loop .inv .1 .1)
 
 pub put-lines-spec : {M : Type 1} → statement M
 put-lines-spec =

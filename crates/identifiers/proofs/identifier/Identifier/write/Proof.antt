@@ -18,7 +18,11 @@ returns-2 c = sym (write-16 _ (sym (right-decides (le-ltb _ _ (c .before .before
 
 returns-3 : tie.Need-returns-3
 unfolding formula
-returns-3 c = ap Number (omega arith) ∙ sym (write-number (c .before .before .before .before .before .before .before .before .before .args .self) (c .before .before .before .before .before .before .before .if1 .left) (c .before .before .before .before .before .if2 .left))
+returns-3 c =
+    let at-if2 = c .before .before .before .before .before in
+    let at-if1 = at-if2 .before .before in
+    let entry = at-if1 .before .before in
+    ap Number (omega arith) ∙ sym (write-number (entry .args .self) (at-if1 .if1 .left) (at-if2 .if2 .left))
 
 pub write-spec : {M : Type 1} → statement M
 write-spec =

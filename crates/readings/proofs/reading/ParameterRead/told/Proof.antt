@@ -12,9 +12,10 @@ use Rattle.readings.proofs.reading.ParameterRead.told.Tie as tie
 returns : tie.Need-returns
 unfolding parameterTold
 returns c =
-    let m = c .before .before .before .before .self .given .0 .0 in
+    let at-self = c .before .before .before .before in
+    let m = at-self .self .given .0 .0 in
     let fits : SFits w32 (m .whole) = search needs in
-    rw (c .before .before .outcome .ensures, c .before .value .ensures, toZ-ofZ fits) (ap parameterTold (sym (c .before .before .before .before .self .given .1)))
+    rw (c .before .before .outcome .ensures, c .before .value .ensures, toZ-ofZ fits) (ap parameterTold (sym (at-self .self .given .1)))
 
 returns-2 : tie.Need-returns-2
 unfolding parameterTold ofBits

@@ -7,7 +7,7 @@ use Rattle.server.proofs.serving.Answer.told.Tie as tie
 
 returns : tie.Need-returns
 unfolding answerTold
-returns c = rw ((c .number .ensures)) (ap answerTold (sym ((c .before .before .self .given) .1)))
+returns c = rw (c .number .ensures) (ap answerTold (sym ((c .before .before .self .given) .1)))
 
 returns-2 : tie.Need-returns-2
 unfolding answerTold

@@ -7,7 +7,7 @@ use Rattle.server.proofs.status.StatusAnswer.told.Tie as tie
 
 returns : tie.Need-returns
 unfolding statusTold
-returns c = rw ((c .number .ensures)) (ap statusTold (sym ((c .before .before .self .given) .1)))
+returns c = rw (c .number .ensures) (ap statusTold (sym ((c .before .before .self .given) .1)))
 
 returns-2 : tie.Need-returns-2
 unfolding statusTold
