@@ -1,0 +1,35 @@
+-- `castanhiu_flow_control` meets its contract: by the control's number, what the layer's function answers, told by its own definition.
+use mathlib.Core.Path.{ap, _∙_, refl}
+use borrow.Author.Needs.{needs}
+use borrow.Author.Tests.{eq-eqb, ne-eqb}
+use Rattle.identifiers.proofs.LawsChoice.{taken, passed}
+use Rattle.receiver.specs.Cuts.{cutTold, noFrame}
+use Rattle.castanhiu.specs.Numbers.{controlNumbered}
+use Rattle.castanhiu.proofs.frames.castanhiu_flow_control.Statement.{statement}
+use Rattle.castanhiu.proofs.frames.castanhiu_flow_control.Tie as tie
+
+returns : tie.Need-returns
+unfolding controlNumbered
+returns c = (c .told .ensures) ∙ ap cutTold (taken _ (eq-eqb _ _ (c .before .before .if1 .taken)) (c .before .flow-control .ensures))
+
+returns-2 : tie.Need-returns-2
+unfolding controlNumbered
+returns-2 c =
+    (c .told2 .ensures) ∙ ap cutTold (passed _ (ne-eqb _ _ (c .before .before .before .if1 .left)) (taken _ (eq-eqb _ _ (c .before .before .if2 .taken)) (c .before .flow-control2 .ensures)))
+
+returns-3 : tie.Need-returns-3
+unfolding controlNumbered cutTold noFrame
+returns-3 c = rw (c .number .ensures) (ap cutTold {x = noFrame} (passed _ (ne-eqb _ _ (c .before .before .if1 .left)) (passed _ (ne-eqb _ _ (c .before .if2 .left)) refl)))
+
+pub castanhiu-flow-control-spec : {M : Type 1} → statement M
+castanhiu-flow-control-spec =
+    tie.close
+    (tie.spec
+    (λ c κs. search needs)
+    (λ c κs. search needs)
+    returns
+    (λ c κs. search needs)
+    (λ c κs. search needs)
+    returns-2
+    (λ c κs. search needs)
+    returns-3)

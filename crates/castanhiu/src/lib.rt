@@ -1,0 +1,8 @@
+// The layers for a host in C: each function calls a layer's own and gives its answer in document 01's numbers.
+mod frames;
+mod identifier;
+mod node;
+mod parameter;
+mod sheet_text;
+mod trailer;
+mod vehicle;

@@ -1,0 +1,46 @@
+// The trailer record: checked by value; served and set where it is lent.
+ghost use mathlib.Core.Path.{_≡_};
+ghost use Rattle.server.specs.Server.{outcomeOf};
+ghost use Rattle.server.specs.Status.{settingOf};
+ghost use Rattle.server.specs.Trailer.{checkedAs};
+ghost use Rattle.server.specs.Told.{answerTold, checkedTold, statusTold};
+use server::AnswerTold;
+use server::RecordCheckedTold;
+use server::StatusAnswerTold;
+use server::TrailerRecord;
+use server::check;
+use server::serve_lent;
+use server::set_status_lent;
+
+#[no_mangle]
+pub extern "C" fn castanhiu_record_check(record: TrailerRecord) -> RecordCheckedTold
+    ensures { λ r. ⌜ r ≡ checkedTold (checkedAs «record») ⌝ }
+{
+    check(record).told()
+}
+
+#[no_mangle]
+pub extern "C" fn castanhiu_serve(
+    record: &mut TrailerRecord,
+    request: &[u8],
+    functional: bool,
+    response: &mut [u8],
+) -> AnswerTold
+    ensures { λ r. ⌜ (now («record» .exit) ≡ outcomeOf (now («record» .entry)) (now (request .entry)) functional (now (response .entry)) .after)
+        × ((r ≡ answerTold (outcomeOf (now («record» .entry)) (now (request .entry)) functional (now (response .entry)) .answer))
+        × (now (response .exit) ≡ outcomeOf (now («record» .entry)) (now (request .entry)) functional (now (response .entry)) .response)) ⌝ }
+{
+    serve_lent(record, request, functional, response).told()
+}
+
+#[no_mangle]
+pub extern "C" fn castanhiu_set_status(
+    record: &mut TrailerRecord,
+    code: u32,
+    status: u8,
+) -> StatusAnswerTold
+    ensures { λ r. ⌜ (now («record» .exit) ≡ settingOf (now («record» .entry)) code status .after)
+        × (r ≡ statusTold (settingOf (now («record» .entry)) code status .answer)) ⌝ }
+{
+    set_status_lent(record, code, status).told()
+}

@@ -1,0 +1,155 @@
+/* Castanhiu: trailer diagnostics on the bus between towing and towed vehicle. Link libcastanhiu.a (x86-64 Linux).
+ *
+ * Every function answers whatever it is handed: a refusal is a number of the table in document 01, 0 is none, and a refused
+ * answer has all its other numbers 0, but for a node, and for the control that refusal 11 says is due. A slice is a pointer
+ * and then its length; the pointer leads to that many bytes and is not null. What one call writes may not overlap with what
+ * else it is lent. No function keeps memory, allocates, or calls out. Positions: 0 the towing vehicle, 1 to 5 the trailers. */
+#ifndef CASTANHIU_H
+#define CASTANHIU_H
+
+#include <stdbool.h>
+#include <stddef.h>
+#include <stdint.h>
+
+enum { CASTANHIU_BUFFER = 1536, CASTANHIU_RESPONSE = 255, CASTANHIU_MESSAGE = 255, CASTANHIU_PAGE = 88701 };
+enum { CASTANHIU_PREDECESSOR = 0, CASTANHIU_SUCCESSOR = 1 };                                         /* from a side */
+enum { CASTANHIU_NOWHERE = 0, CASTANHIU_TO_PREDECESSOR = 1, CASTANHIU_TO_SUCCESSOR = 2 };            /* sent on */
+enum { CASTANHIU_VALUE, CASTANHIU_RESERVED, CASTANHIU_ERROR, CASTANHIU_NOT_AVAILABLE, CASTANHIU_BEYOND_RANGE };
+enum { CASTANHIU_NOTHING = 0, CASTANHIU_SINGLE = 1, CASTANHIU_TRAIN = 2 };                           /* handed out */
+enum { CASTANHIU_NO_CONTROL = 0, CASTANHIU_CONTINUE = 1, CASTANHIU_OVERFLOW = 2 };                   /* control due */
+
+typedef struct { uint8_t priority, data_page, format, specific, source; } castanhiu_identifier;      /* P, DP, PF, PS, SA */
+typedef struct { uint8_t refusal; castanhiu_identifier fields; } castanhiu_identifier_answer;
+typedef struct { uint8_t refusal; uint32_t number; } castanhiu_number_answer;
+typedef struct { uint8_t refusal, own; } castanhiu_position_answer;
+typedef struct { uint8_t refusal; bool kept; uint8_t onward; } castanhiu_route_answer;
+typedef struct { uint8_t refusal, outcome; float value; int32_t whole; } castanhiu_parameter_answer;
+typedef struct { uint8_t refusal, outcome; } castanhiu_two_bits_answer;                              /* 0 no, 1 yes, 2 error, 3 not available */
+
+/* A reception is closed when all its numbers are 0; open: L, the consecutive frames taken, the last stamp. */
+typedef struct { uint8_t length, taken; uint32_t last; } castanhiu_reception;
+typedef struct { uint8_t own, unit; castanhiu_reception receptions[6]; } castanhiu_node;
+typedef struct { castanhiu_node node; uint8_t refusal; } castanhiu_node_answer;
+
+/* The message lies in the frame's data (a single frame) or in the buffer (a train), `length` bytes from `start` on. */
+typedef struct {
+    uint8_t refusal, handed_out, from;
+    bool functional;
+    uint16_t start;
+    uint8_t length, control; /* control: due to the vehicle `from` */
+} castanhiu_outcome;
+typedef struct { castanhiu_node node; castanhiu_outcome outcome; } castanhiu_receive_answer;
+
+/* A frame to send: its identifier and its first `length` data bytes; those past them are 0. */
+typedef struct { uint8_t refusal, length; uint32_t identifier; uint8_t data[8]; } castanhiu_frame;
+
+/* Codes and identifiers ascend; identifier k has lengths[k] bytes from bytes[32 * k] on. Places past count and held are free. */
+typedef struct {
+    uint32_t codes[63];
+    uint8_t statuses[63], count, availability;
+    uint16_t identifiers[16];
+    uint8_t lengths[16], bytes[512], held;
+} castanhiu_record;
+typedef struct { uint8_t refusal; } castanhiu_record_answer;
+typedef struct { uint8_t refusal; bool silent; size_t length; } castanhiu_serve_answer;
+
+_Static_assert(sizeof(castanhiu_identifier) == 5 && sizeof(castanhiu_identifier_answer) == 6, "identifier");
+_Static_assert(sizeof(castanhiu_number_answer) == 8 && offsetof(castanhiu_number_answer, number) == 4, "number");
+_Static_assert(sizeof(castanhiu_position_answer) == 2 && sizeof(castanhiu_route_answer) == 3, "position, route");
+_Static_assert(sizeof(castanhiu_parameter_answer) == 12 && sizeof(castanhiu_two_bits_answer) == 2, "readings");
+_Static_assert(sizeof(castanhiu_reception) == 8 && sizeof(castanhiu_node) == 52, "node");
+_Static_assert(sizeof(castanhiu_node_answer) == 56 && offsetof(castanhiu_node_answer, refusal) == 52, "node answer");
+_Static_assert(sizeof(castanhiu_outcome) == 8 && sizeof(castanhiu_receive_answer) == 60, "outcome");
+_Static_assert(sizeof(castanhiu_frame) == 16 && offsetof(castanhiu_frame, data) == 8, "frame");
+_Static_assert(sizeof(castanhiu_record) == 880 && offsetof(castanhiu_record, bytes) == 366, "record");
+_Static_assert(sizeof(castanhiu_record_answer) == 1 && sizeof(castanhiu_serve_answer) == 16, "record answers");
+
+/* Reads the fields of a 29-bit identifier.
+ * Refuses: 2 a number of 2^29 or more, 4 R set.
+ * Memory: none. */
+castanhiu_identifier_answer castanhiu_identifier_read(uint32_t number);
+
+/* Writes an identifier from its fields, with R 0.
+ * Refuses: 16 P over 7 or DP over 1.
+ * Memory: none. */
+castanhiu_number_answer castanhiu_identifier_write(castanhiu_identifier fields);
+
+/* The position after the vehicle that has this address.
+ * Refuses: 15 address A9, or no vehicle's.
+ * Memory: none. */
+castanhiu_position_answer castanhiu_position_after(uint8_t source);
+
+/* Whether a frame from a side is kept, and to which side it is sent on.
+ * Refuses: 1 another side, own position not 1 to 5 or 5 with a successor, then 2, 3, 4 of the frame.
+ * Memory: the data is left as found. */
+castanhiu_route_answer castanhiu_route(uint8_t side, uint8_t own, bool successor, uint32_t identifier,
+                                       const uint8_t *data, size_t data_length);
+
+/* Reads a raw number of kind 0 to 7: a value exact in f32, and the same as a whole number of the kind's steps.
+ * Refuses: 20 a kind over 7, a raw number past the kind's bytes.
+ * Memory: none. */
+castanhiu_parameter_answer castanhiu_read_parameter(uint8_t kind, uint32_t raw);
+
+/* Reads two bits.
+ * Refuses: 20 over 3.
+ * Memory: none. */
+castanhiu_two_bits_answer castanhiu_read_two_bits(uint8_t raw);
+
+/* A trailer that starts: position 1, all receptions closed.
+ * Refuses: nothing.
+ * Memory: none; the node is the host's. */
+castanhiu_node castanhiu_start(uint8_t unit);
+
+/* A fresh node at a position, all receptions closed.
+ * Refuses: 1 a position that is not 1 to 5; the node then has that position, and every function refuses it.
+ * Memory: none; the node is the host's. */
+castanhiu_node_answer castanhiu_fresh(uint8_t own, uint8_t unit);
+
+/* Takes the address after the predecessor's, from whose initialization frame `source` is; a new one closes all receptions.
+ * Refuses: 1 a node that breaks its rules, 15 no address to take; the node comes back as found.
+ * Memory: none. */
+castanhiu_node_answer castanhiu_take_address(castanhiu_node node, uint8_t source);
+
+/* Offers one frame to the node; the host keeps the node that comes back, and the same buffer of CASTANHIU_BUFFER bytes.
+ * Refuses: 1 the node or the buffer's length, 2 to 14 the frame; 11, 13 and 14 close that vehicle's reception.
+ * Memory: a frame of a train writes its message bytes into the buffer, at 256 x position on; all else is left as found. */
+castanhiu_receive_answer castanhiu_receive(castanhiu_node node, uint8_t *buffer, size_t buffer_length, uint32_t identifier,
+                                           const uint8_t *data, size_t data_length, uint32_t stamp_ms);
+
+/* The frame of flow control that an outcome says is due: CASTANHIU_CONTINUE or CASTANHIU_OVERFLOW.
+ * Refuses: 16 another control, positions over 5 or equal.
+ * Memory: none. */
+castanhiu_frame castanhiu_flow_control(uint8_t control, uint8_t from, uint8_t to, uint8_t unit);
+
+/* How many frames a message has.
+ * Refuses: 0 for a length of 0 or over 255.
+ * Memory: none. */
+size_t castanhiu_frame_count(size_t length);
+
+/* Frame `number` of a message; the single or first frame is number 0.
+ * Refuses: 16 a message of 0 or over 255 bytes, a frame past the last, positions over 5 or equal.
+ * Memory: the message is left as found. */
+castanhiu_frame castanhiu_cut(const uint8_t *message, size_t length, size_t number, uint8_t from, uint8_t to, uint8_t unit);
+
+/* Whether a record keeps its rules.
+ * Refuses: 1 a record that does not.
+ * Memory: the record goes in by value. */
+castanhiu_record_answer castanhiu_record_check(castanhiu_record record);
+
+/* Answers one request; the response has CASTANHIU_RESPONSE bytes, of which `length` are sent, none where silent.
+ * Refuses: 1 a record that breaks its rules, 17 a request of 0 or over 255 bytes, a response buffer of another length.
+ * Memory: statuses change by service 14 alone; bytes past the response stay, all stay when silent or refused. */
+castanhiu_serve_answer castanhiu_serve(castanhiu_record *record, const uint8_t *request, size_t request_length,
+                                       bool functional, uint8_t *response, size_t response_length);
+
+/* Sets the status of one code.
+ * Refuses: 1 a record that breaks its rules, 18 a code not held, 19 a status outside the mask.
+ * Memory: that one status changes, and nothing where refused. */
+castanhiu_record_answer castanhiu_set_status(castanhiu_record *record, uint32_t code, uint8_t status);
+
+/* Prints the count sheet of an input into a page of CASTANHIU_PAGE bytes; answers how many bytes the text has.
+ * Refuses: in the text, `refused N at OFFSET`, with N 21 to 24.
+ * Memory: bytes of the page past the text stay. */
+size_t castanhiu_sheet_text(const uint8_t *input, size_t input_length, uint8_t page[CASTANHIU_PAGE]);
+
+#endif

@@ -1,0 +1,54 @@
+# Compiles C against the archive and runs it, for the scripts that source this from the project's root.
+#
+#     compiled PROGRAM FLAGS.. FILES..    writes PROGRAM
+#     running PROGRAM ARGUMENTS..         runs it
+#
+# The archive is for x86-64. There the machine's own `cc` compiles; elsewhere, and where KIT=1 is set, the kit's clang does,
+# with the C library that the kit brings, and on another processor the kit's emulator runs the program.
+kit=$(dirname "$(dirname "$(rt doc)")")
+tools=$kit/on/$(uname -m)/toolchain
+library=$tools/lib
+host=tests/host
+flags='-std=c11 -Wall -Wextra -Werror -Iinclude'
+if [ "$(uname -m)" != x86_64 ]; then KIT=1; fi
+
+compiled() {
+    local program=$1 objects=() words=() word object
+    shift
+    if [ "${KIT:-0}" != 1 ]; then
+        # shellcheck disable=SC2086
+        ${CC:-cc} $flags "$@" -o "$program"
+        return
+    fi
+    for word in "$@"; do
+        case $word in
+        *.c) objects+=("$word") ;;
+        *.a) words+=("$word") ;;
+        esac
+    done
+    local options=()
+    for word in "$@"; do case $word in -*) options+=("$word") ;; esac; done
+    local made=()
+    for word in "${objects[@]}"; do
+        object=$program-$(basename "$word" .c).o
+        # shellcheck disable=SC2086
+        "$tools/bin/clang" --target=x86_64-linux-gnu -ffreestanding -fPIE -nostdinc -isystem "$host/kit" $flags "${options[@]}" \
+            -c "$word" -o "$object" || return
+        made+=("$object")
+    done
+    "$tools/bin/ld.lld" -pie --dynamic-linker "$library/ld-linux-x86-64.so.2" -o "$program" \
+        "$library/Scrt1.o" "$library/crti.o" "$library/crtbeginS.o" "${made[@]}" "${words[@]}" \
+        "$library/libc.so.6" "$library/libc_nonshared.a" "$library/crtendS.o" "$library/crtn.o"
+}
+
+running() {
+    local program=$1
+    shift
+    if [ "${KIT:-0}" != 1 ]; then
+        "$program" "$@"
+    elif [ -x "$tools/bin/qemu-x86_64" ]; then
+        "$tools/bin/qemu-x86_64" "$library/ld-linux-x86-64.so.2" --library-path "$library" "$program" "$@"
+    else
+        "$library/ld-linux-x86-64.so.2" --library-path "$library" "$program" "$@"
+    fi
+}

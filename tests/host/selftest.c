@@ -1,0 +1,1746 @@
+/*
+ * Self test of the independent model of document 01: every worked number, both sides of the
+ * boundaries in the rules, and random runs that check what must stay as it was.
+ */
+#include "model.h"
+
+#include <math.h>
+#include <stdio.h>
+#include <stdlib.h>
+#include <string.h>
+
+static unsigned long checks;
+
+#define CHECK(condition)                                                                    \
+    do {                                                                                    \
+        checks++;                                                                           \
+        if (!(condition)) {                                                                 \
+            fprintf(stderr, "selftest: failed at line %d: %s\n", __LINE__, #condition);     \
+            exit(1);                                                                        \
+        }                                                                                   \
+    } while (0)
+
+static uint64_t seed = UINT64_C(0x9E3779B97F4A7C15);
+
+static uint32_t any(void)
+{
+    seed ^= seed << 13;
+    seed ^= seed >> 7;
+    seed ^= seed << 17;
+    return (uint32_t)(seed >> 32);
+}
+
+static uint32_t below(uint32_t limit)
+{
+    return any() % limit;
+}
+
+static const uint8_t vehicle[6] = {0xEB, 0xC9, 0xC1, 0xB9, 0xB1, 0xA9};
+
+/* ---- comparing ----------------------------------------------------------------------------- */
+
+static int same_reception(const model_reception *a, const model_reception *b)
+{
+    return a->open == b->open && a->length == b->length && a->frames == b->frames &&
+           a->stamp == b->stamp;
+}
+
+static int same_node(const model_node *a, const model_node *b)
+{
+    if (a->own != b->own || a->unit != b->unit) {
+        return 0;
+    }
+    for (int p = 0; p < 6; p++) {
+        if (!same_reception(&a->receptions[p], &b->receptions[p])) {
+            return 0;
+        }
+    }
+    return 1;
+}
+
+static int same_outcome(model_outcome a, model_outcome b)
+{
+    return a.start == b.start && a.refusal == b.refusal && a.kind == b.kind && a.from == b.from &&
+           a.functional == b.functional && a.length == b.length && a.place == b.place &&
+           a.control == b.control && a.control_to == b.control_to;
+}
+
+static int is_refusal(model_outcome a, uint8_t refusal)
+{
+    return same_outcome(a, (model_outcome){.refusal = refusal});
+}
+
+static int is_overflow(model_outcome a, uint8_t to)
+{
+    return same_outcome(
+        a, (model_outcome){.refusal = 11, .control = MODEL_OVERFLOW, .control_to = to});
+}
+
+static int is_continue(model_outcome a, uint8_t to)
+{
+    return same_outcome(a, (model_outcome){.control = MODEL_CONTINUE, .control_to = to});
+}
+
+static int is_taken(model_outcome a)
+{
+    return same_outcome(a, (model_outcome){0});
+}
+
+static int is_single(model_outcome a, uint8_t from, uint8_t functional, uint8_t length)
+{
+    return same_outcome(a, (model_outcome){.start = 2,
+                                           .kind = MODEL_SINGLE,
+                                           .from = from,
+                                           .functional = functional,
+                                           .length = length,
+                                           .place = MODEL_IN_DATA});
+}
+
+static int is_train(model_outcome a, uint8_t from, uint8_t length)
+{
+    return same_outcome(a, (model_outcome){.start = (uint16_t)(256 * from),
+                                           .kind = MODEL_TRAIN,
+                                           .from = from,
+                                           .length = length,
+                                           .place = MODEL_IN_BUFFER});
+}
+
+static int is_closed(const model_reception *a)
+{
+    const model_reception closed = {0};
+    return same_reception(a, &closed);
+}
+
+static int is_open(const model_reception *a, uint8_t length, uint8_t frames, uint32_t stamp)
+{
+    const model_reception open = {.open = 1, .length = length, .frames = frames, .stamp = stamp};
+    return same_reception(a, &open);
+}
+
+/* ---- identifier, vehicle, route ------------------------------------------------------------ */
+
+static void test_identifier(void)
+{
+    model_identifier id = model_identifier_read(0x18CEC9EB);
+    CHECK(id.refusal == 0 && id.priority == 6 && id.data_page == 0 && id.format == 206);
+    CHECK(id.specific == 0xC9 && id.source == 0xEB);
+    CHECK(model_position_of(id.specific) == 1 && model_position_of(id.source) == 0);
+
+    const struct {
+        uint32_t number;
+        size_t length;
+        uint8_t alone, framed;
+    } cases[] = {
+        {0x20000000, 0, 2, 2},          {0x20000000, 8, 2, 2}, {0x20000000, 9, 2, 2},
+        {0x1FFFFFFF, 0, 4, 4},          {0x1FFFFFFF, 8, 4, 4}, {0x1FFFFFFF, 9, 4, 3},
+        {0x1DFFFFFF, 8, 0, 0},          {0x1DFFFFFF, 9, 0, 3}, {0x02000000, 8, 4, 4},
+        {0x01FFFFFF, 8, 0, 0},          {0xFFFFFFFF, 9, 2, 2}, {0, 0, 0, 0},
+        {0x18CEC9EB, SIZE_MAX, 0, 3},   {0x04000000, 0, 0, 0}, {0x06000000, 0, 4, 4},
+    };
+    for (size_t i = 0; i < sizeof cases / sizeof cases[0]; i++) {
+        const model_identifier a = model_identifier_read(cases[i].number);
+        const model_identifier b = model_identifier_of_frame(cases[i].number, cases[i].length);
+        CHECK(a.refusal == cases[i].alone && b.refusal == cases[i].framed);
+        if (a.refusal != 0) {
+            CHECK(!a.priority && !a.data_page && !a.format && !a.specific && !a.source);
+        }
+        if (b.refusal != 0) {
+            CHECK(!b.priority && !b.data_page && !b.format && !b.specific && !b.source);
+        }
+    }
+
+    model_written w = model_identifier_write(6, 0, 206, 0xC9, 0xEB);
+    CHECK(w.refusal == 0 && w.number == 0x18CEC9EB);
+    w = model_identifier_write(7, 1, 255, 255, 255);
+    CHECK(w.refusal == 0 && w.number == 0x1DFFFFFF);
+    w = model_identifier_write(8, 0, 1, 1, 1);
+    CHECK(w.refusal == 16 && w.number == 0);
+    w = model_identifier_write(0, 2, 1, 1, 1);
+    CHECK(w.refusal == 16 && w.number == 0);
+    w = model_identifier_write(UINT32_MAX, UINT32_MAX, 1, 1, 1);
+    CHECK(w.refusal == 16 && w.number == 0);
+
+    for (int i = 0; i < 20000; i++) {
+        const uint32_t p = below(10), dp = below(4);
+        const uint8_t pf = (uint8_t)any(), ps = (uint8_t)any(), sa = (uint8_t)any();
+        w = model_identifier_write(p, dp, pf, ps, sa);
+        CHECK((w.refusal == 16) == (p > 7 || dp > 1));
+        if (w.refusal == 0) {
+            CHECK(w.number ==
+                  p * 67108864u + dp * 16777216u + pf * 65536u + ps * 256u + sa);
+            id = model_identifier_read(w.number);
+            CHECK(id.refusal == 0 && id.priority == p && id.data_page == dp && id.format == pf &&
+                  id.specific == ps && id.source == sa);
+            CHECK(model_identifier_read(w.number | 0x02000000u).refusal == 4);
+            CHECK(model_identifier_read(w.number | 0x20000000u).refusal == 2);
+        }
+    }
+}
+
+static void test_vehicle(void)
+{
+    unsigned found = 0;
+    for (unsigned a = 0; a < 256; a++) {
+        uint8_t expected = MODEL_NO_POSITION;
+        for (uint8_t p = 0; p < 6; p++) {
+            if (vehicle[p] == a) {
+                expected = p;
+            }
+        }
+        CHECK(model_position_of((uint8_t)a) == expected);
+        const model_next next = model_next_position((uint8_t)a);
+        if (expected < 5) {
+            CHECK(next.refusal == 0 && next.position == expected + 1);
+            found++;
+        } else {
+            CHECK(next.refusal == 15 && next.position == 0);
+        }
+    }
+    CHECK(found == 5);
+    for (uint32_t p = 0; p < 300; p++) {
+        CHECK(model_address_of(p) == (p < 6 ? vehicle[p] : 0));
+    }
+    CHECK(model_address_of(UINT32_MAX) == 0);
+    CHECK(model_next_position(0xB1).position == 5 && model_address_of(5) == 0xA9);
+    CHECK(model_next_position(0xA9).refusal == 15);
+    CHECK(model_next_position(0xFF).refusal == 15);
+}
+
+static void check_route(uint32_t side, uint32_t own, uint8_t successor, uint32_t number,
+                        size_t length)
+{
+    const model_routed r = model_route(side, own, successor, number, length);
+    uint8_t refusal = 0, kept = 0, sent_on = 0;
+    if (side > 1 || own == 0 || own > 5 || (own == 5 && successor)) {
+        refusal = 1;
+    } else if (number >= 0x20000000u) {
+        refusal = 2;
+    } else if (length > 8) {
+        refusal = 3;
+    } else if (number & 0x02000000u) {
+        refusal = 4;
+    } else {
+        const uint8_t sa = (uint8_t)number, ps = (uint8_t)(number >> 8), pf = (uint8_t)(number >> 16);
+        for (uint32_t p = 0; p < 6; p++) {
+            if (vehicle[p] != sa) {
+                continue;
+            }
+            if ((side == 0 && p < own) || (side == 1 && p > own && successor)) {
+                kept = pf >= 240 || ps == vehicle[own] || ps == 255;
+                sent_on = side == 1 ? 1 : successor ? 2 : 0;
+            }
+        }
+    }
+    CHECK(r.refusal == refusal && r.kept == kept && r.sent_on == sent_on);
+}
+
+static void test_route(void)
+{
+    static const uint8_t formats[] = {0, 205, 206, 239, 240, 255};
+    static const uint8_t specifics[] = {0, 0xEB, 0xC9, 0xC1, 0xB9, 0xB1, 0xA9, 0xFE, 0xFF, 200};
+    for (uint32_t side = 0; side < 4; side++) {
+        for (uint32_t own = 0; own < 9; own++) {
+            for (uint8_t successor = 0; successor < 3; successor++) {
+                for (uint32_t sa = 0; sa < 256; sa++) {
+                    for (size_t f = 0; f < sizeof formats; f++) {
+                        for (size_t s = 0; s < sizeof specifics; s++) {
+                            check_route(side, own, successor,
+                                        below(8) << 26 | below(2) << 24 |
+                                            (uint32_t)formats[f] << 16 |
+                                            (uint32_t)specifics[s] << 8 | sa,
+                                        8);
+                        }
+                    }
+                }
+            }
+        }
+    }
+    for (int i = 0; i < 200000; i++) {
+        uint32_t number = below(3) ? any() & 0x3FFFFFFFu : any() & 0x1DFFFFFFu;
+        if (below(2)) {
+            number = (number & ~0xFFu) | vehicle[below(6)];
+        }
+        check_route(below(3), below(7), (uint8_t)below(2), number, below(11));
+    }
+    /* sent on also when it names this vehicle */
+    model_routed r = model_route(0, 1, 1, 0x18CEC9EB, 8);
+    CHECK(r.refusal == 0 && r.kept == 1 && r.sent_on == MODEL_SENT_SUCCESSOR);
+    r = model_route(0, 1, 0, 0x18CEC9EB, 8);
+    CHECK(r.refusal == 0 && r.kept == 1 && r.sent_on == MODEL_SENT_NOWHERE);
+    r = model_route(1, 1, 1, 0x18CEC9C1, 8);
+    CHECK(r.refusal == 0 && r.kept == 1 && r.sent_on == MODEL_SENT_PREDECESSOR);
+    r = model_route(1, 1, 0, 0x18CEC9C1, 8);
+    CHECK(r.refusal == 0 && r.kept == 0 && r.sent_on == 0);
+    CHECK(model_route(1, 1, 0, 0x20000000, 8).refusal == 2);
+    CHECK(model_route(9, 1, 0, 0x20000000, 9).refusal == 1);
+    CHECK(model_route(0, 5, 1, 0x20000000, 9).refusal == 1);
+    CHECK(model_route(0, 5, 0, 0x20000000, 9).refusal == 2);
+    CHECK(model_route(0, 1, 1, 0x1FFFFFFF, 9).refusal == 3);
+    CHECK(model_route(0, 1, 1, 0x1FFFFFFF, 8).refusal == 4);
+    CHECK(model_route(UINT32_MAX, 1, 1, 0, 0).refusal == 1);
+    CHECK(model_route(0, UINT32_MAX, 1, 0, 0).refusal == 1);
+}
+
+/* ---- readings ------------------------------------------------------------------------------ */
+
+static void test_readings(void)
+{
+    static const int bytes[8] = {1, 1, 1, 1, 2, 2, 2, 2};
+    static const int divisor[8] = {1, 1, 1, 1, 256, 8, 1, 32};
+    static const int offset[8] = {-125, -125, 0, 0, 0, 0, 0, -273};
+    for (uint32_t kind = 0; kind < 10; kind++) {
+        for (uint32_t raw = 0; raw < 70000; raw++) {
+            const model_reading r = model_read(kind, raw);
+            if (kind > 7 || raw > (bytes[kind] == 1 ? 255u : 65535u)) {
+                CHECK(r.refusal == 20 && r.outcome == 0 && r.whole == 0 && r.value == 0.0f &&
+                      !signbit(r.value));
+                continue;
+            }
+            const uint32_t unit = bytes[kind] == 1 ? 1 : 256;
+            const uint8_t outcome = raw < 251 * unit ? (kind == 2 && raw >= 126 ? 4 : 0)
+                                    : raw < 254 * unit ? 1
+                                    : raw < 255 * unit ? 2
+                                                       : 3;
+            CHECK(r.refusal == 0 && r.outcome == outcome);
+            if (outcome == 0) {
+                const int whole = (int)raw + offset[kind] * divisor[kind];
+                CHECK(r.whole == whole);
+                CHECK((double)r.value * divisor[kind] == (double)whole);
+            } else {
+                CHECK(r.whole == 0 && r.value == 0.0f);
+            }
+            if (r.value == 0.0f) {
+                CHECK(!signbit(r.value));
+            }
+        }
+        CHECK(model_read(kind, UINT32_MAX).refusal == 20);
+        CHECK(model_read(kind, 65536).refusal == 20);
+    }
+    CHECK(model_read(200, 0).refusal == 20 && model_read(UINT32_MAX, 0).refusal == 20);
+    CHECK(model_read(0, 125).value == 0.0f && model_read(0, 125).whole == 0);
+    CHECK(model_read(0, 0).value == -125.0f);
+    CHECK(model_read(7, 8736).value == 0.0f);
+    CHECK(model_read(7, 8735).value == -1.0f / 32.0f && model_read(7, 8735).whole == -1);
+    CHECK(model_read(7, 64255).value == 55519.0f / 32.0f && model_read(7, 64255).whole == 55519);
+    CHECK(model_read(7, 64256).outcome == MODEL_RESERVED);
+    CHECK(model_read(7, 65023).outcome == MODEL_RESERVED);
+    CHECK(model_read(7, 65024).outcome == MODEL_ERROR);
+    CHECK(model_read(7, 65279).outcome == MODEL_ERROR);
+    CHECK(model_read(7, 65280).outcome == MODEL_NOT_AVAILABLE);
+    CHECK(model_read(2, 125).outcome == 0 && model_read(2, 125).value == 125.0f);
+    CHECK(model_read(2, 126).outcome == 4 && model_read(2, 250).outcome == 4);
+    CHECK(model_read(2, 251).outcome == 1 && model_read(2, 253).outcome == 1);
+    CHECK(model_read(2, 254).outcome == 2 && model_read(2, 255).outcome == 3);
+    CHECK(model_read(3, 250).value == 250.0f && model_read(3, 251).outcome == 1);
+    for (uint32_t raw = 0; raw < 300; raw++) {
+        const model_two_bits r = model_read_two_bits(raw);
+        CHECK(raw < 4 ? r.refusal == 0 && r.outcome == raw : r.refusal == 20 && r.outcome == 0);
+    }
+    CHECK(model_read_two_bits(UINT32_MAX).refusal == 20);
+}
+
+/* ---- node ---------------------------------------------------------------------------------- */
+
+static void test_node(void)
+{
+    for (unsigned unit = 0; unit < 256; unit++) {
+        const model_node node = model_start((uint8_t)unit);
+        CHECK(node.own == 1 && node.unit == unit && model_node_keeps_rules(&node));
+        for (int p = 0; p < 6; p++) {
+            CHECK(is_closed(&node.receptions[p]));
+        }
+        for (uint32_t p = 0; p < 9; p++) {
+            const model_fresh_node f = model_fresh(p, (uint8_t)unit);
+            const model_node expected = {.own = (uint8_t)p, .unit = (uint8_t)unit};
+            const model_node zero = {0};
+            CHECK(f.refusal == (p >= 1 && p <= 5 ? 0 : 1));
+            CHECK(same_node(&f.node, f.refusal ? &zero : &expected));
+        }
+    }
+    CHECK(model_fresh(257, 0).refusal == 1 && model_fresh(UINT32_MAX, 0).refusal == 1);
+
+    /* the rules of a reception, all lengths and frames */
+    for (unsigned p = 0; p < 6; p++) {
+        for (unsigned open = 0; open < 4; open++) {
+            for (unsigned length = 0; length < 256; length++) {
+                for (unsigned frames = 0; frames < 256; frames++) {
+                    model_node node = model_start(5);
+                    node.receptions[p] = (model_reception){.open = (uint8_t)open,
+                                                           .length = (uint8_t)length,
+                                                           .frames = (uint8_t)frames,
+                                                           .stamp = 0};
+                    const int keeps = open == 1 ? length >= 7 && 5 + 6 * frames < length
+                                                : open == 0 && length == 0 && frames == 0;
+                    CHECK(model_node_keeps_rules(&node) == keeps);
+                    if (keeps) {
+                        node.receptions[p].stamp = 1;
+                        CHECK(model_node_keeps_rules(&node) == (open == 1));
+                    }
+                }
+            }
+        }
+    }
+    for (unsigned own = 0; own < 256; own++) {
+        model_node node = model_start(5);
+        node.own = (uint8_t)own;
+        CHECK(model_node_keeps_rules(&node) == (own >= 1 && own <= 5));
+    }
+    /* an open reception at the own position breaks no rule */
+    model_node node = model_start(5);
+    node.receptions[1] = (model_reception){.open = 1, .length = 7, .stamp = 3};
+    CHECK(model_node_keeps_rules(&node) == 1);
+
+    /* taking an address */
+    for (unsigned own = 1; own <= 5; own++) {
+        for (unsigned sa = 0; sa < 256; sa++) {
+            model_node before = model_fresh(own, 9).node;
+            before.receptions[0] = (model_reception){.open = 1, .length = 255, .frames = 41, .stamp = 7};
+            before.receptions[5] = (model_reception){.open = 1, .length = 7, .frames = 0, .stamp = 0};
+            model_node after = before;
+            const uint8_t refusal = model_take_address(&after, (uint8_t)sa);
+            const uint8_t from = model_position_of((uint8_t)sa);
+            if (from >= 5) {
+                CHECK(refusal == 15 && same_node(&before, &after));
+            } else if (from + 1u == own) {
+                CHECK(refusal == 0 && same_node(&before, &after));
+            } else {
+                const model_node fresh = model_fresh(from + 1u, 9).node;
+                CHECK(refusal == 0 && same_node(&fresh, &after));
+            }
+            before.receptions[3].stamp = 1;
+            after = before;
+            CHECK(model_take_address(&after, (uint8_t)sa) == 1 && same_node(&before, &after));
+        }
+    }
+}
+
+/* ---- receiver ------------------------------------------------------------------------------ */
+
+static uint8_t buffer[MODEL_BUFFER_LENGTH];
+
+static uint32_t physical(uint32_t to, uint32_t from)
+{
+    return 0x18CE0000u | (uint32_t)vehicle[to] << 8 | vehicle[from];
+}
+
+static uint32_t functional(uint32_t from)
+{
+    return 0x18CDFF00u | vehicle[from];
+}
+
+/* The data lies in a block of its own size, so that a read past it is found. */
+static model_outcome offer(model_node *node, uint32_t number, const uint8_t *data, size_t length,
+                           uint32_t stamp)
+{
+    uint8_t *own = malloc(length ? length : 1);
+    if (own == NULL) {
+        abort();
+    }
+    if (length) {
+        memcpy(own, data, length);
+    }
+    const model_outcome r = model_receive(node, buffer, sizeof buffer, number, own, length, stamp);
+    free(own);
+    return r;
+}
+
+#define OFFER(node, number, stamp, ...)                                                     \
+    offer(node, number, (const uint8_t[]){__VA_ARGS__}, sizeof((const uint8_t[]){__VA_ARGS__}), \
+          stamp)
+
+static void test_receiver_worked(void)
+{
+    /* the 11-byte request */
+    model_node node = model_start(5);
+    memset(buffer, 0xEE, sizeof buffer);
+    CHECK(is_continue(OFFER(&node, 0x18CEC9EB, 10, 5, 0x10, 0x0B, 0x22, 0xF1, 0x90, 0xF1, 0x87), 0));
+    CHECK(is_open(&node.receptions[0], 11, 0, 10));
+    model_node second = node;
+    CHECK(is_train(OFFER(&node, 0x18CEC9EB, 20, 5, 0x21, 0xF1, 0x8C, 0xF1, 0x95, 0xF1, 0x97), 0, 11));
+    CHECK(is_closed(&node.receptions[0]));
+    CHECK(memcmp(buffer, "\x22\xF1\x90\xF1\x87\xF1\x8C\xF1\x95\xF1\x97\xEE", 12) == 0);
+    for (size_t i = 11; i < sizeof buffer; i++) {
+        CHECK(buffer[i] == 0xEE);
+    }
+    /* number 2 instead */
+    CHECK(is_refusal(OFFER(&second, 0x18CEC9EB, 20, 5, 0x22, 0xF1, 0x8C, 0xF1, 0x95, 0xF1, 0x97), 13));
+    CHECK(is_closed(&second.receptions[0]));
+
+    /* stamps that run round */
+    node = model_start(5);
+    CHECK(is_continue(OFFER(&node, 0x18CEC9EB, 0xFFFFFFF0, 5, 0x10, 7, 1, 2, 3, 4, 5), 0));
+    second = node;
+    CHECK(is_train(OFFER(&node, 0x18CEC9EB, 0x00000086, 5, 0x21, 6, 7), 0, 7));
+    CHECK(is_refusal(OFFER(&second, 0x18CEC9EB, 0x00000087, 5, 0x21, 6, 7), 14));
+    CHECK(is_closed(&second.receptions[0]));
+
+    /* a stamp that goes back is late; the same stamp is in time */
+    node = model_start(5);
+    OFFER(&node, 0x18CEC9EB, 100, 5, 0x10, 7, 1, 2, 3, 4, 5);
+    second = node;
+    CHECK(is_refusal(OFFER(&node, 0x18CEC9EB, 99, 5, 0x21, 6, 7), 14));
+    CHECK(is_train(OFFER(&second, 0x18CEC9EB, 100, 5, 0x21, 6, 7), 0, 7));
+}
+
+static void test_receiver_order(void)
+{
+    const uint8_t single[8] = {5, 1, 0x3E, 0, 0, 0, 0, 0};
+    model_node node = model_start(5);
+    const model_node start = node;
+
+    /* 1 */
+    CHECK(is_refusal(model_receive(&node, buffer, 1535, 0x20000000, single, 9, 0), 1));
+    CHECK(is_refusal(model_receive(&node, buffer, 0, 0x18CEC9EB, single, 3, 0), 1));
+    CHECK(is_refusal(model_receive(&node, NULL, 0, 0x18CEC9EB, NULL, 0, 0), 1));
+    node.own = 0;
+    CHECK(is_refusal(offer(&node, 0x18CEC9EB, single, 3, 0), 1));
+    node.own = 6;
+    CHECK(is_refusal(offer(&node, 0x18CEC9EB, single, 3, 0), 1));
+    node.own = 1;
+    for (unsigned p = 0; p < 6; p++) {
+        node.receptions[p].frames = 1;
+        CHECK(is_refusal(offer(&node, 0x20000000, single, 3, 0), 1));
+        node.receptions[p].frames = 0;
+    }
+    CHECK(same_node(&node, &start));
+    /* 2, 3, 4 */
+    const uint8_t nine[9] = {5, 1, 0x3E};
+    CHECK(is_refusal(offer(&node, 0x20000000, nine, 9, 0), 2));
+    CHECK(is_refusal(offer(&node, 0x1FFFFFFF, nine, 9, 0), 3));
+    CHECK(is_refusal(offer(&node, 0x18CEC9EB, nine, 9, 0), 3));
+    CHECK(is_refusal(model_receive(&node, buffer, 1536, 0x18CEC9EB, NULL, SIZE_MAX, 0), 3));
+    CHECK(is_refusal(offer(&node, 0x1ACEC9EB, nine, 8, 0), 4));
+    CHECK(is_single(offer(&node, 0x18CEC9EB, nine, 8, 0), 0, 0, 1));
+    /* 5 before 6 before 7 before 8 */
+    CHECK(is_refusal(offer(&node, 0x19CEC900, single, 0, 0), 5));
+    CHECK(is_refusal(offer(&node, 0x19CEC9EB, single, 3, 0), 5));
+    CHECK(is_refusal(offer(&node, 0x19CDFFEB, single, 3, 0), 5));
+    CHECK(is_refusal(offer(&node, 0x18CCC9EB, single, 3, 0), 5));
+    CHECK(is_refusal(offer(&node, 0x18CFC9EB, single, 3, 0), 5));
+    CHECK(is_refusal(offer(&node, 0x18CE0000, single, 0, 0), 6));
+    CHECK(is_refusal(offer(&node, 0x18CEC9C9, single, 3, 0), 6));
+    CHECK(is_refusal(offer(&node, 0x18CEC9FF, single, 3, 0), 6));
+    CHECK(is_refusal(offer(&node, 0x18CDFFC9, single, 3, 0), 6));
+    CHECK(is_refusal(offer(&node, 0x18CEFFEB, single, 0, 0), 7));
+    CHECK(is_refusal(offer(&node, 0x18CEC1EB, single, 3, 0), 7));
+    CHECK(is_refusal(offer(&node, 0x18CDC9EB, single, 3, 0), 7));
+    CHECK(is_refusal(model_receive(&node, buffer, 1536, 0x18CEC9EB, NULL, 0, 0), 8));
+    CHECK(is_refusal(OFFER(&node, 0x18CEC9EB, 0, 4), 8));
+    CHECK(is_refusal(OFFER(&node, 0x18CEC9EB, 0, 4, 1, 1), 8));
+    CHECK(is_refusal(OFFER(&node, 0x18CEC9EB, 0, 5), 9));
+    CHECK(is_refusal(OFFER(&node, 0x18CDFFEB, 0, 5), 9));
+    CHECK(same_node(&node, &start));
+
+    /* every priority is taken */
+    for (uint32_t p = 0; p < 8; p++) {
+        CHECK(is_single(offer(&node, p << 26 | 0x00CEC9EB, single, 3, 0), 0, 0, 1));
+        CHECK(is_single(offer(&node, p << 26 | 0x00CDFFEB, single, 3, 0), 0, 1, 1));
+    }
+
+    /* every second byte with every length, nothing open, physical and functional */
+    for (unsigned second = 0; second < 256; second++) {
+        for (size_t length = 2; length <= 8; length++) {
+            for (unsigned third = 0; third < 256; third++) {
+                const uint8_t data[8] = {5, (uint8_t)second, (uint8_t)third, 1, 2, 3, 4, 5};
+                const unsigned high = second / 16, low = second % 16;
+                const int single_fits = high == 0 && low >= 1 && low <= 6 && length >= 2 + low;
+                node = start;
+                model_outcome r = offer(&node, functional(2), data, length, 77);
+                CHECK(single_fits ? is_single(r, 2, 1, (uint8_t)low) : is_refusal(r, 9));
+                CHECK(same_node(&node, &start));
+                r = offer(&node, physical(1, 2), data, length, 77);
+                if (high == 0) {
+                    CHECK(single_fits ? is_single(r, 2, 0, (uint8_t)low) : is_refusal(r, 9));
+                } else if (high == 1 && length == 8 && low * 256 + third > 255) {
+                    CHECK(is_overflow(r, 2));
+                } else if (high == 1 && length == 8 && third >= 7) {
+                    CHECK(is_continue(r, 2) && is_open(&node.receptions[2], (uint8_t)third, 0, 77));
+                    continue;
+                } else {
+                    CHECK(is_refusal(r, high == 2 ? 12 : high == 3 ? 10 : 9));
+                }
+                CHECK(same_node(&node, &start));
+            }
+        }
+    }
+}
+
+static void test_receiver_open(void)
+{
+    /* what ends an open reception, and what does not */
+    model_node open = model_start(5);
+    open.receptions[0] = (model_reception){.open = 1, .length = 20, .frames = 0, .stamp = 1000};
+    open.receptions[3] = (model_reception){.open = 1, .length = 20, .frames = 1, .stamp = 900};
+    model_node node;
+    model_node expected;
+
+#define STAYS(refusal_, number, stamp, ...)                               \
+    do {                                                                  \
+        node = open;                                                      \
+        CHECK(is_refusal(OFFER(&node, number, stamp, __VA_ARGS__), refusal_)); \
+        CHECK(same_node(&node, &open));                                   \
+    } while (0)
+
+    STAYS(9, physical(1, 0), 1001, 5);
+    STAYS(9, physical(1, 0), 1001, 5, 0x00, 1);
+    STAYS(9, physical(1, 0), 1001, 5, 0x02, 1);
+    STAYS(9, physical(1, 0), 1001, 5, 0x07, 1, 2, 3, 4, 5, 6);
+    STAYS(9, physical(1, 0), 1001, 5, 0x10, 0x0B, 1, 2, 3, 4);
+    STAYS(9, physical(1, 0), 1001, 5, 0x1F, 0xFF, 1, 2, 3, 4);
+    STAYS(9, physical(1, 0), 1001, 5, 0x10, 0x06, 1, 2, 3, 4, 5);
+    STAYS(9, physical(1, 0), 1001, 5, 0x21, 1, 2, 3, 4, 5);
+    STAYS(9, physical(1, 0), 9999, 5, 0x22, 1, 2, 3, 4, 5);
+    STAYS(9, physical(1, 0), 1001, 5, 0x21);
+    STAYS(9, physical(1, 0), 1001, 5, 0x40, 2, 3, 4, 5, 6, 7);
+    STAYS(9, physical(1, 0), 1001, 5, 0xF0, 2, 3, 4, 5, 6, 7);
+    STAYS(10, physical(1, 0), 1001, 5, 0x30, 0, 0);
+    STAYS(10, physical(1, 0), 1001, 5, 0x3F);
+    STAYS(12, physical(1, 2), 1001, 5, 0x21, 1, 2, 3, 4, 5, 6);
+    STAYS(12, physical(1, 2), 1001, 5, 0x21);
+    STAYS(9, functional(0), 1001, 5, 0x21, 1, 2, 3, 4, 5, 6);
+    STAYS(9, functional(0), 1001, 5, 0x10, 0x0B, 1, 2, 3, 4, 5);
+    STAYS(9, functional(0), 1001, 5, 0x11, 0x00, 1, 2, 3, 4, 5);
+    STAYS(9, functional(0), 1001, 5, 0x30, 0, 0);
+    STAYS(9, functional(2), 1001, 5, 0x21, 1, 2, 3, 4, 5, 6);
+#undef STAYS
+
+    node = open;
+    CHECK(is_single(OFFER(&node, functional(0), 1001, 5, 0x02, 1, 2), 0, 1, 2));
+    CHECK(same_node(&node, &open));
+    CHECK(is_single(OFFER(&node, physical(1, 2), 1001, 5, 0x02, 1, 2), 2, 0, 2));
+    CHECK(same_node(&node, &open));
+
+    expected = open;
+    expected.receptions[0] = (model_reception){0};
+    CHECK(is_single(OFFER(&node, physical(1, 0), 1001, 5, 0x02, 1, 2), 0, 0, 2));
+    CHECK(same_node(&node, &expected));
+    node = open;
+    CHECK(is_overflow(OFFER(&node, physical(1, 0), 1001, 5, 0x11, 0x00, 1, 2, 3, 4, 5), 0));
+    CHECK(same_node(&node, &expected));
+    node = open;
+    CHECK(is_refusal(OFFER(&node, physical(1, 0), 1001, 5, 0x20, 1, 2, 3, 4, 5, 6), 13));
+    CHECK(same_node(&node, &expected));
+    node = open;
+    CHECK(is_refusal(OFFER(&node, physical(1, 0), 1151, 5, 0x22, 1, 2, 3, 4, 5, 6), 13));
+    CHECK(same_node(&node, &expected));
+    node = open;
+    CHECK(is_refusal(OFFER(&node, physical(1, 0), 1151, 5, 0x21, 1, 2, 3, 4, 5, 6), 14));
+    CHECK(same_node(&node, &expected));
+    node = open;
+    CHECK(is_taken(OFFER(&node, physical(1, 0), 1150, 5, 0x21, 1, 2, 3, 4, 5, 6)));
+    expected.receptions[0] =
+        (model_reception){.open = 1, .length = 20, .frames = 1, .stamp = 1150};
+    CHECK(same_node(&node, &expected));
+    node = open;
+    CHECK(is_continue(OFFER(&node, physical(1, 0), 5, 5, 0x10, 0x07, 1, 2, 3, 4, 5), 0));
+    expected.receptions[0] = (model_reception){.open = 1, .length = 7, .frames = 0, .stamp = 5};
+    CHECK(same_node(&node, &expected));
+
+    /* two messages of two vehicles, interleaved; a frame passed over sets no stamp */
+    node = open;
+    CHECK(is_taken(OFFER(&node, physical(1, 0), 1010, 5, 0x21, 1, 2, 3, 4, 5, 6)));
+    CHECK(is_taken(OFFER(&node, physical(1, 3), 1011, 5, 0x22, 1, 2, 3, 4, 5, 6)));
+    CHECK(is_refusal(OFFER(&node, physical(1, 3), 1161, 5, 0x23, 1, 2), 9));
+    model_node late = node;
+    CHECK(is_refusal(OFFER(&late, physical(1, 3), 1162, 5, 0x23, 1, 2, 3), 14));
+    CHECK(is_train(OFFER(&node, physical(1, 3), 1161, 5, 0x23, 1, 2, 3), 3, 20));
+    CHECK(is_open(&node.receptions[0], 20, 1, 1010));
+
+    /* a last frame with more bytes than it needs */
+    node = model_start(5);
+    memset(buffer, 0xEE, sizeof buffer);
+    OFFER(&node, physical(1, 4), 0, 5, 0x10, 7, 1, 2, 3, 4, 5);
+    CHECK(is_train(OFFER(&node, physical(1, 4), 0, 5, 0x21, 6, 7, 8, 9, 10, 11), 4, 7));
+    CHECK(memcmp(buffer + 1024, "\1\2\3\4\5\6\7\xEE\xEE", 9) == 0);
+    CHECK(buffer[1023] == 0xEE);
+
+    /* an open reception at the own position changes nothing */
+    node = model_start(5);
+    node.receptions[1] = (model_reception){.open = 1, .length = 20, .frames = 0, .stamp = 1000};
+    expected = node;
+    CHECK(is_refusal(OFFER(&node, physical(1, 1), 1000, 5, 0x21, 1, 2, 3, 4, 5, 6), 6));
+    CHECK(is_single(OFFER(&node, physical(1, 0), 1000, 5, 1, 1), 0, 0, 1));
+    CHECK(same_node(&node, &expected));
+}
+
+/* ---- cutter, and back through the receiver ------------------------------------------------- */
+
+static void test_cutter(void)
+{
+    uint8_t message[256];
+    for (unsigned i = 0; i < sizeof message; i++) {
+        message[i] = (uint8_t)any();
+    }
+    CHECK(model_frame_count(0) == 0 && model_frame_count(256) == 0);
+    CHECK(model_frame_count(SIZE_MAX) == 0 && model_frame_count((size_t)UINT32_MAX + 2) == 0);
+    CHECK(model_frame_count(1) == 1 && model_frame_count(6) == 1);
+    CHECK(model_frame_count(7) == 2 && model_frame_count(11) == 2 && model_frame_count(12) == 3);
+    CHECK(model_frame_count(17) == 3 && model_frame_count(18) == 4);
+    CHECK(model_frame_count(255) == 43);
+
+    const model_frame last = model_cut(message, 255, 42, 0, 1, 5);
+    CHECK(last.refusal == 0 && last.length == 6 && last.data[1] == 0x2A && last.data[0] == 5);
+    CHECK(memcmp(last.data + 2, message + 251, 4) == 0 && last.data[6] == 0 && last.data[7] == 0);
+    CHECK(model_cut(message, 255, 15, 0, 1, 5).data[1] == 0x2F);
+    CHECK(model_cut(message, 255, 16, 0, 1, 5).data[1] == 0x20);
+    CHECK(model_cut(message, 255, 17, 0, 1, 5).data[1] == 0x21);
+    CHECK(model_cut(message, 7, 1, 0, 1, 5).length == 4);
+    CHECK(model_cut(message, 7, 1, 0, 1, 5).identifier == 0x18CEC9EB);
+
+    const model_frame none = {.refusal = 16};
+#define REFUSED(...)                                                                   \
+    do {                                                                               \
+        const model_frame f_ = __VA_ARGS__;                                            \
+        CHECK(f_.refusal == 16 && f_.identifier == 0 && f_.length == 0 &&              \
+              memcmp(f_.data, none.data, 8) == 0);                                     \
+    } while (0)
+    REFUSED(model_cut(message, 0, 0, 0, 1, 5));
+    REFUSED(model_cut(NULL, 0, 0, 0, 1, 5));
+    REFUSED(model_cut(message, 256, 0, 0, 1, 5));
+    REFUSED(model_cut(message, 6, 1, 0, 1, 5));
+    REFUSED(model_cut(message, 7, 2, 0, 1, 5));
+    REFUSED(model_cut(message, 255, 43, 0, 1, 5));
+    REFUSED(model_cut(message, 255, UINT32_MAX, 0, 1, 5));
+    REFUSED(model_cut(message, 7, 0, 6, 1, 5));
+    REFUSED(model_cut(message, 7, 0, 1, 6, 5));
+    REFUSED(model_cut(message, 7, 0, 3, 3, 5));
+    REFUSED(model_cut(message, 7, 0, UINT32_MAX, 1, 5));
+    REFUSED(model_flow_control(0, 1, 0, 5));
+    REFUSED(model_flow_control(3, 1, 0, 5));
+    REFUSED(model_flow_control(UINT32_MAX, 1, 0, 5));
+    REFUSED(model_flow_control(1, 6, 0, 5));
+    REFUSED(model_flow_control(1, 0, 6, 5));
+    REFUSED(model_flow_control(2, 4, 4, 5));
+#undef REFUSED
+    const model_frame go = model_flow_control(MODEL_CONTINUE, 1, 0, 5);
+    CHECK(go.refusal == 0 && go.identifier == 0x18CEEBC9 && go.length == 4);
+    CHECK(memcmp(go.data, "\x05\x30\0\0\0\0\0\0", 8) == 0);
+    const model_frame stop = model_flow_control(MODEL_OVERFLOW, 5, 0, 0xFF);
+    CHECK(stop.refusal == 0 && stop.identifier == 0x18CEEBA9 && stop.length == 4);
+    CHECK(memcmp(stop.data, "\xFF\x32\0\0\0\0\0\0", 8) == 0);
+    CHECK(model_flow_control(MODEL_CONTINUE, 0, 5, 0).refusal == 0);
+
+    for (unsigned length = 1; length <= 255; length++) {
+        uint8_t *exact = malloc(length);
+        if (exact == NULL) {
+            abort();
+        }
+        memcpy(exact, message, length);
+        const uint32_t count = model_frame_count(length);
+        const uint32_t naive = length <= 6 ? 1 : 1 + (length - 5 + 5) / 6;
+        CHECK(count == naive);
+        for (uint32_t sender = 0; sender < 6; sender++) {
+            for (uint32_t receiver = 1; receiver < 6; receiver++) {
+                if (sender == receiver) {
+                    continue;
+                }
+                model_node node = model_fresh(receiver, (uint8_t)length).node;
+                const model_node start = node;
+                uint32_t stamp = any();
+                memset(buffer, 0xEE, sizeof buffer);
+                unsigned total = 0;
+                for (uint32_t i = 0; i < count; i++) {
+                    const model_frame f =
+                        model_cut(exact, length, i, sender, receiver, (uint8_t)length);
+                    CHECK(f.refusal == 0 && f.identifier == physical(receiver, sender));
+                    for (unsigned b = f.length; b < 8; b++) {
+                        CHECK(f.data[b] == 0);
+                    }
+                    /* one byte less is refused, and changes nothing */
+                    if (length > 6) {
+                        model_node other = node;
+                        CHECK(is_refusal(offer(&other, f.identifier, f.data, f.length - 1u, stamp), 9));
+                        CHECK(same_node(&other, &node));
+                    }
+                    const model_outcome r = offer(&node, f.identifier, f.data, f.length, stamp);
+                    total += f.length - (length > 6 && i == 0 ? 3u : 2u);
+                    if (length <= 6) {
+                        CHECK(is_single(r, (uint8_t)sender, 0, (uint8_t)length));
+                        CHECK(memcmp(f.data + 2, exact, length) == 0);
+                    } else if (i == 0) {
+                        CHECK(is_continue(r, (uint8_t)sender));
+                    } else if (i + 1 < count) {
+                        CHECK(is_taken(r));
+                        CHECK(is_open(&node.receptions[sender], (uint8_t)length, (uint8_t)i, stamp));
+                    } else {
+                        CHECK(is_train(r, (uint8_t)sender, (uint8_t)length));
+                        CHECK(memcmp(buffer + r.start, exact, length) == 0);
+                    }
+                    CHECK(model_node_keeps_rules(&node));
+                    stamp += below(151);
+                }
+                CHECK(total == length && same_node(&node, &start));
+                for (size_t b = 0; b < sizeof buffer; b++) {
+                    if (length <= 6 || b < 256 * sender || b >= 256 * sender + length) {
+                        CHECK(buffer[b] == 0xEE);
+                    }
+                }
+            }
+        }
+        free(exact);
+    }
+}
+
+/* ---- random frames: what must stay, and complete trains by the sequence alone --------------- */
+
+typedef struct {
+    uint32_t number;
+    uint8_t data[9];
+    size_t length;
+    uint32_t stamp;
+} test_frame;
+
+static test_frame some_frame(const model_node *node, uint32_t now)
+{
+    test_frame f = {.stamp = now};
+    const uint32_t from = below(3);
+    for (int i = 0; i < 9; i++) {
+        f.data[i] = (uint8_t)any();
+    }
+    f.length = below(4) ? 8 : below(10);
+    f.data[0] = below(40) ? node->unit : (uint8_t)any();
+    f.number = below(12) ? physical(node->own, from) : functional(from);
+    switch (below(60)) {
+    case 0:
+        f.number = any();
+        break;
+    case 1:
+        f.number ^= UINT32_C(1) << below(30);
+        break;
+    default:
+        break;
+    }
+    switch (below(20)) {
+    case 0:
+        f.data[1] = (uint8_t)below(9);
+        break;
+    case 1:
+        f.data[1] = (uint8_t)(0x30u + below(16));
+        break;
+    case 2:
+        f.data[1] = (uint8_t)any();
+        break;
+    case 3:
+        f.data[1] = (uint8_t)(0x20u + below(16));
+        break;
+    case 4:
+    case 5:
+        f.data[1] = below(12) ? 0x10 : (uint8_t)(0x10u + below(16));
+        f.data[2] = (uint8_t)(below(3) ? 5u + below(30) : below(256));
+        break;
+    default:
+        f.data[1] = (uint8_t)(0x20u + ((node->receptions[from].frames + 1u) & 15u));
+        break;
+    }
+    return f;
+}
+
+/* A physical frame of that vehicle that refusals 2 to 8 do not name, with a second byte. */
+static int of_vehicle(const test_frame *f, uint8_t own, uint8_t unit, uint32_t p)
+{
+    return (f->number & ~UINT32_C(0x1C000000)) ==
+               (UINT32_C(206) << 16 | (uint32_t)vehicle[own] << 8 | vehicle[p]) &&
+           f->length >= 2 && f->length <= 8 && f->data[0] == unit;
+}
+
+enum { SEQUENCE = 400 };
+
+static void test_trains(void)
+{
+    static test_frame frames[SEQUENCE];
+    static model_outcome outcomes[SEQUENCE];
+    static uint8_t shown[SEQUENCE][256];
+    unsigned long trains = 0;
+
+    for (int run = 0; run < 300; run++) {
+        const uint8_t own = (uint8_t)(3 + below(3));
+        model_node node = model_fresh(own, (uint8_t)any()).node;
+        uint32_t now = any();
+        for (int i = 0; i < SEQUENCE; i++) {
+            now += below(100) ? below(20) : 120u + below(60);
+            if (below(300) == 0) {
+                now -= below(5);
+            }
+            frames[i] = some_frame(&node, now);
+            const model_node before = node;
+            uint8_t old[MODEL_BUFFER_LENGTH];
+            memcpy(old, buffer, sizeof old);
+            const model_outcome r =
+                offer(&node, frames[i].number, frames[i].data, frames[i].length, now);
+            outcomes[i] = r;
+            CHECK(model_node_keeps_rules(&node));
+            CHECK(node.own == before.own && node.unit == before.unit);
+            const uint8_t from = model_position_of((uint8_t)frames[i].number);
+            /* what must stay */
+            for (uint32_t p = 0; p < 6; p++) {
+                if (p != from) {
+                    CHECK(same_reception(&node.receptions[p], &before.receptions[p]));
+                }
+            }
+            size_t low = 0, high = 0;
+            if (r.refusal != 0) {
+                CHECK(r.refusal <= 14);
+                if (r.refusal == 11 || r.refusal == 13 || r.refusal == 14) {
+                    CHECK(is_closed(&node.receptions[from]));
+                    CHECK(r.refusal == 11 ? is_overflow(r, from) : is_refusal(r, r.refusal));
+                } else {
+                    CHECK(is_refusal(r, r.refusal) && same_node(&node, &before));
+                }
+            } else if (r.kind == MODEL_SINGLE) {
+                CHECK(is_single(r, from, r.functional, frames[i].data[1]));
+                if (r.functional) {
+                    CHECK(same_node(&node, &before));
+                } else {
+                    CHECK(is_closed(&node.receptions[from]));
+                }
+            } else if (r.control == MODEL_CONTINUE) {
+                CHECK(is_continue(r, from));
+                low = 256u * from;
+                high = low + 5;
+                CHECK(memcmp(buffer + low, frames[i].data + 3, 5) == 0);
+            } else {
+                const model_reception *const b = &before.receptions[from];
+                const size_t taken = 5 + 6 * (size_t)b->frames;
+                const size_t left = b->length - taken;
+                CHECK(b->open == 1);
+                low = 256u * from + taken;
+                high = low + (left < 6 ? left : 6);
+                CHECK(memcmp(buffer + low, frames[i].data + 2, high - low) == 0);
+                if (r.kind == MODEL_TRAIN) {
+                    CHECK(left <= 6 && is_train(r, from, b->length));
+                    CHECK(is_closed(&node.receptions[from]));
+                    memcpy(shown[i], buffer + r.start, r.length);
+                    trains++;
+                } else {
+                    CHECK(left > 6 && is_taken(r));
+                    CHECK(is_open(&node.receptions[from], b->length, (uint8_t)(b->frames + 1), now));
+                }
+            }
+            CHECK(memcmp(buffer, old, low) == 0);
+            CHECK(memcmp(buffer + high, old + high, sizeof old - high) == 0);
+        }
+
+        /* the complete trains of the sequence alone are the trains handed out, no more, no less */
+        static uint8_t ends[SEQUENCE];
+        memset(ends, 0, sizeof ends);
+        for (int s = 0; s < SEQUENCE; s++) {
+            for (uint32_t p = 0; p < 6; p++) {
+                const test_frame *const first = &frames[s];
+                if (p == own || !of_vehicle(first, own, node.unit, p) || first->length != 8 ||
+                    first->data[1] != 0x10 || first->data[2] < 7) {
+                    continue;
+                }
+                const unsigned length = first->data[2];
+                uint8_t message[256];
+                unsigned count = 5, k = 0;
+                uint32_t last = first->stamp;
+                memcpy(message, first->data + 3, 5);
+                for (int i = s + 1; i < SEQUENCE; i++) {
+                    const test_frame *const f = &frames[i];
+                    if (!of_vehicle(f, own, node.unit, p)) {
+                        continue;
+                    }
+                    const unsigned high = f->data[1] >> 4, low = f->data[1] & 15u;
+                    if (high >= 3) {
+                        continue;
+                    }
+                    if (high == 0) {
+                        if (low < 1 || low > 6 || f->length < 2 + low) {
+                            continue;
+                        }
+                        break;
+                    }
+                    if (high == 1) {
+                        if (f->length < 8 || low * 256 + f->data[2] < 7) {
+                            continue;
+                        }
+                        break;
+                    }
+                    const unsigned need = length - count < 6 ? length - count : 6;
+                    if (f->length < 2 + need) {
+                        continue;
+                    }
+                    if (low != (k + 1) % 16 || (uint32_t)(f->stamp - last) > 150) {
+                        break;
+                    }
+                    memcpy(message + count, f->data + 2, need);
+                    count += need;
+                    k++;
+                    last = f->stamp;
+                    if (count == length) {
+                        CHECK(!ends[i]);
+                        ends[i] = 1;
+                        CHECK(is_train(outcomes[i], (uint8_t)p, (uint8_t)length));
+                        CHECK(memcmp(shown[i], message, length) == 0);
+                        break;
+                    }
+                }
+            }
+        }
+        for (int i = 0; i < SEQUENCE; i++) {
+            CHECK((outcomes[i].kind == MODEL_TRAIN) == ends[i]);
+        }
+    }
+    CHECK(trains > 1000);
+
+    /* states that are no states: always 1, nothing changes; states of any kind are answered */
+    unsigned long broken = 0, whole = 0;
+    for (int i = 0; i < 300000; i++) {
+        model_node node = {.own = (uint8_t)below(7), .unit = (uint8_t)below(3)};
+        for (int p = 0; p < 6; p++) {
+            if (below(2)) {
+                const uint8_t length = (uint8_t)(below(30) ? 7 + below(249) : below(256));
+                node.receptions[p] = (model_reception){
+                    .open = (uint8_t)(below(40) ? 1 : below(256)),
+                    .length = length,
+                    .frames = (uint8_t)(below(30) ? (length > 5 ? below((length - 1u - 5u) / 6 + 1) : 0)
+                                                  : below(256)),
+                    .stamp = any(),
+                };
+            }
+        }
+        const model_node before = node;
+        const int keeps = model_node_keeps_rules(&node);
+        const uint8_t own = node.own < 6 ? node.own : 0;
+        test_frame f = some_frame(&(model_node){.own = own, .unit = node.unit}, any());
+        if (below(4)) {
+            const uint32_t p = model_position_of((uint8_t)f.number);
+            if (p < 6) {
+                f.stamp = node.receptions[p].stamp + below(200);
+                if (below(2)) {
+                    f.data[1] = (uint8_t)(0x20u + ((node.receptions[p].frames + 1u) & 15u));
+                }
+            }
+        }
+        const model_outcome r = offer(&node, f.number, f.data, f.length, f.stamp);
+        if (!keeps) {
+            CHECK(is_refusal(r, 1) && same_node(&node, &before));
+            broken++;
+        } else {
+            CHECK(r.refusal != 1 && model_node_keeps_rules(&node));
+            whole++;
+        }
+    }
+    CHECK(broken > 10000 && whole > 10000);
+}
+
+/* ---- server -------------------------------------------------------------------------------- */
+
+static uint8_t response[MODEL_RESPONSE_LENGTH];
+static uint8_t response_before[MODEL_RESPONSE_LENGTH];
+
+static model_answer ask(model_record *record, int is_functional, const uint8_t *request, size_t length)
+{
+    uint8_t *own = malloc(length ? length : 1);
+    if (own == NULL) {
+        abort();
+    }
+    memcpy(own, request, length);
+    for (unsigned i = 0; i < sizeof response; i++) {
+        response[i] = (uint8_t)any();
+    }
+    memcpy(response_before, response, sizeof response);
+    const model_answer a =
+        model_serve(record, own, length, (uint8_t)is_functional, response, sizeof response);
+    free(own);
+    CHECK(memcmp(response + a.sent, response_before + a.sent, sizeof response - a.sent) == 0);
+    return a;
+}
+
+static int answered(model_record *record, int is_functional, const uint8_t *request, size_t length,
+                    const uint8_t *expected, size_t expected_length)
+{
+    const model_answer a = ask(record, is_functional, request, length);
+    return a.refusal == 0 && a.sent == expected_length &&
+           memcmp(response, expected, expected_length) == 0;
+}
+
+#define BYTES(...) (const uint8_t[]){__VA_ARGS__}, sizeof((const uint8_t[]){__VA_ARGS__})
+#define SILENT (const uint8_t[]){0}, 0
+
+static int same_record(const model_record *a, const model_record *b)
+{
+    return memcmp(a->codes, b->codes, sizeof a->codes) == 0 &&
+           memcmp(a->statuses, b->statuses, sizeof a->statuses) == 0 && a->count == b->count &&
+           a->availability == b->availability &&
+           memcmp(a->identifiers, b->identifiers, sizeof a->identifiers) == 0 &&
+           memcmp(a->lengths, b->lengths, sizeof a->lengths) == 0 &&
+           memcmp(a->bytes, b->bytes, sizeof a->bytes) == 0 && a->held == b->held;
+}
+
+static model_record some_record(void)
+{
+    model_record r;
+    for (unsigned i = 0; i < 63; i++) {
+        r.codes[i] = any();
+        r.statuses[i] = (uint8_t)any();
+    }
+    for (unsigned i = 0; i < 16; i++) {
+        r.identifiers[i] = (uint16_t)any();
+        r.lengths[i] = (uint8_t)any();
+    }
+    for (unsigned i = 0; i < 512; i++) {
+        r.bytes[i] = (uint8_t)any();
+    }
+    do {
+        r.availability = (uint8_t)(any() | 0x49u);
+    } while (!model_mask_keeps_rule(r.availability));
+    r.count = (uint8_t)(below(4) ? below(64) : 63 * below(2));
+    r.held = (uint8_t)below(17);
+    uint32_t code = below(3);
+    for (unsigned i = 0; i < r.count; i++) {
+        r.codes[i] = code;
+        r.statuses[i] = (uint8_t)(any() & r.availability);
+        code += 1 + below(below(2) ? 3 : 200000);
+    }
+    uint32_t identifier = below(3);
+    for (unsigned i = 0; i < r.held; i++) {
+        r.identifiers[i] = (uint16_t)identifier;
+        r.lengths[i] = (uint8_t)(1 + below(32));
+        identifier += 1 + below(below(2) ? 3 : 4000);
+    }
+    return r;
+}
+
+static void test_record_rules(void)
+{
+    for (unsigned mask = 0; mask < 256; mask++) {
+        const int b[8] = {mask & 1,         mask >> 1 & 1, mask >> 2 & 1, mask >> 3 & 1,
+                          mask >> 4 & 1, mask >> 5 & 1, mask >> 6 & 1, mask >> 7 & 1};
+        const int keeps = b[0] && b[3] && b[6] && (!b[2] || b[1]) && b[4] == b[5];
+        CHECK(model_mask_keeps_rule((uint8_t)mask) == keeps);
+        model_record r = {.availability = (uint8_t)mask};
+        CHECK(model_record_keeps_rules(&r) == keeps);
+    }
+    CHECK(model_mask_keeps_rule(0x7F) && model_mask_keeps_rule(0x4B) && model_mask_keeps_rule(0x49));
+
+    for (int i = 0; i < 2000; i++) {
+        const model_record good = some_record();
+        CHECK(model_record_keeps_rules(&good));
+    }
+    const model_record good = {
+        .codes = {0, 1, 0xFFFFFE}, .statuses = {0x49, 0, 0x4B}, .count = 3, .availability = 0x4B,
+        .identifiers = {0, 1, 0xFFFF}, .lengths = {1, 32, 32}, .held = 3};
+    CHECK(model_record_keeps_rules(&good));
+    model_record bad;
+#define BROKEN(change)                                                     \
+    do {                                                                   \
+        bad = good;                                                        \
+        change;                                                            \
+        const model_record before_ = bad;                                  \
+        CHECK(!model_record_keeps_rules(&bad));                            \
+        const model_answer a_ = ask(&bad, 0, BYTES(0x3E, 0x00));           \
+        CHECK(a_.refusal == 1 && a_.sent == 0);                            \
+        CHECK(model_serve(&bad, NULL, 0, 0, NULL, 0).refusal == 1);        \
+        CHECK(model_set_status(&bad, 0x77, 0xFF) == 1);                    \
+        CHECK(same_record(&bad, &before_));                                \
+    } while (0)
+    BROKEN(bad.statuses[0] = 0x04);
+    BROKEN(bad.statuses[0] = 0x80);
+    BROKEN((bad.codes[0] = 0xFFFFFF, bad.count = 1));
+    BROKEN((bad.codes[0] = UINT32_MAX, bad.count = 1));
+    BROKEN((bad.lengths[0] = 0, bad.held = 1));
+    BROKEN(bad.codes[2] = 0xFFFFFF);
+    BROKEN(bad.codes[2] = 0x1000000);
+    BROKEN(bad.codes[1] = 0);
+    BROKEN(bad.codes[0] = 2);
+    BROKEN(bad.statuses[1] = 0x04);
+    BROKEN(bad.statuses[2] = 0x80);
+    BROKEN(bad.count = 64);
+    BROKEN(bad.count = 255);
+    BROKEN(bad.count = 4);
+    BROKEN(bad.availability = 0x4F & ~0x02);
+    BROKEN(bad.availability = 0x5B);
+    BROKEN(bad.identifiers[1] = 0);
+    BROKEN(bad.identifiers[0] = 1);
+    BROKEN(bad.lengths[0] = 0);
+    BROKEN(bad.lengths[2] = 33);
+    BROKEN(bad.held = 17);
+    BROKEN(bad.held = 255);
+    BROKEN(bad.held = 4);
+#undef BROKEN
+    /* full to the last place, and one more than that */
+    model_record full = {.count = 63, .held = 16, .availability = 0x7F};
+    for (unsigned i = 0; i < 63; i++) {
+        full.codes[i] = i;
+        full.statuses[i] = 0x01;
+    }
+    for (unsigned i = 0; i < 16; i++) {
+        full.identifiers[i] = (uint16_t)i;
+        full.lengths[i] = 1;
+    }
+    memset(full.bytes, 1, sizeof full.bytes);
+    full.statuses[2] = full.statuses[3] = 0;
+    CHECK(model_record_keeps_rules(&full));
+    full.count = 64;
+    CHECK(!model_record_keeps_rules(&full));
+    full.count = 63;
+    full.held = 17;
+    CHECK(!model_record_keeps_rules(&full));
+    full.held = 16;
+    CHECK(model_record_keeps_rules(&full));
+    full.codes[62] = 0xFFFFFE;
+    full.identifiers[15] = 0xFFFF;
+    full.lengths[15] = 32;
+    CHECK(model_record_keeps_rules(&full));
+    full.codes[62] = 61;
+    CHECK(!model_record_keeps_rules(&full));
+    full.codes[62] = 62;
+    full.lengths[15] = 33;
+    CHECK(!model_record_keeps_rules(&full));
+    full.lengths[15] = 0;
+    CHECK(!model_record_keeps_rules(&full));
+    full.lengths[15] = 1;
+    full.statuses[62] = 0x80;
+    CHECK(!model_record_keeps_rules(&full));
+
+    /* places past the counts are free */
+    bad = good;
+    bad.codes[3] = UINT32_MAX;
+    bad.statuses[3] = 0xFF;
+    bad.lengths[3] = 200;
+    bad.identifiers[3] = 0;
+    CHECK(model_record_keeps_rules(&bad));
+}
+
+static void test_server_worked(void)
+{
+    model_record r = {
+        .codes = {0x010203, 0x010204, 0xA00000},
+        .statuses = {0x08, 0x50, 0x09},
+        .count = 3,
+        .availability = 0x7F,
+        .identifiers = {0x0000, 0xF187, 0xF190},
+        .lengths = {32, 1, 3},
+        .held = 3,
+    };
+    r.bytes[32] = 0x77;
+    r.bytes[64] = 1;
+    r.bytes[65] = 2;
+    r.bytes[66] = 3;
+    const model_record start = r;
+
+    CHECK(answered(&r, 0, BYTES(0x19, 0x01, 0x08), BYTES(0x59, 0x01, 0x7F, 0x03, 0x00, 0x02)));
+    CHECK(answered(&r, 0, BYTES(0x19, 0x01, 0x80), BYTES(0x59, 0x01, 0x7F, 0x03, 0x00, 0x00)));
+    CHECK(answered(&r, 0, BYTES(0x19, 0x01, 0x00), BYTES(0x59, 0x01, 0x7F, 0x03, 0x00, 0x00)));
+    CHECK(answered(&r, 1, BYTES(0x19, 0x01, 0xFF), BYTES(0x59, 0x01, 0x7F, 0x03, 0x00, 0x03)));
+    CHECK(answered(&r, 0, BYTES(0x19, 0x02, 0x08),
+                   BYTES(0x59, 0x02, 0x7F, 1, 2, 3, 0x08, 0xA0, 0, 0, 0x09)));
+    CHECK(answered(&r, 0, BYTES(0x19, 0x02, 0x00), BYTES(0x59, 0x02, 0x7F)));
+    CHECK(answered(&r, 0, BYTES(0x19, 0x0A),
+                   BYTES(0x59, 0x0A, 0x7F, 1, 2, 3, 0x08, 1, 2, 4, 0x50, 0xA0, 0, 0, 0x09)));
+    CHECK(answered(&r, 0, BYTES(0x19, 0x81, 0x08), SILENT));
+    CHECK(answered(&r, 0, BYTES(0x19, 0x82, 0x08), SILENT));
+    CHECK(answered(&r, 0, BYTES(0x19, 0x8A), SILENT));
+    CHECK(answered(&r, 0, BYTES(0x19), BYTES(0x7F, 0x19, 0x13)));
+    CHECK(answered(&r, 1, BYTES(0x19), BYTES(0x7F, 0x19, 0x13)));
+    CHECK(answered(&r, 0, BYTES(0x19, 0x03), BYTES(0x7F, 0x19, 0x12)));
+    CHECK(answered(&r, 0, BYTES(0x19, 0x83), BYTES(0x7F, 0x19, 0x12)));
+    CHECK(answered(&r, 1, BYTES(0x19, 0x03), SILENT));
+    CHECK(answered(&r, 0, BYTES(0x19, 0x01), BYTES(0x7F, 0x19, 0x13)));
+    CHECK(answered(&r, 0, BYTES(0x19, 0x81), BYTES(0x7F, 0x19, 0x13)));
+    CHECK(answered(&r, 0, BYTES(0x19, 0x02, 1, 1), BYTES(0x7F, 0x19, 0x13)));
+    CHECK(answered(&r, 0, BYTES(0x19, 0x0A, 1), BYTES(0x7F, 0x19, 0x13)));
+
+    CHECK(answered(&r, 0, BYTES(0x3E, 0x80), SILENT));
+    CHECK(answered(&r, 0, BYTES(0x3E, 0x01), BYTES(0x7F, 0x3E, 0x12)));
+    CHECK(answered(&r, 0, BYTES(0x3E, 0x81), BYTES(0x7F, 0x3E, 0x12)));
+    CHECK(answered(&r, 1, BYTES(0x3E, 0x81), SILENT));
+    CHECK(answered(&r, 0, BYTES(0x3E), BYTES(0x7F, 0x3E, 0x13)));
+    CHECK(answered(&r, 1, BYTES(0x3E), BYTES(0x7F, 0x3E, 0x13)));
+    CHECK(answered(&r, 0, BYTES(0x3E, 0x00), BYTES(0x7E, 0x00)));
+    CHECK(answered(&r, 1, BYTES(0x3E, 0x00), BYTES(0x7E, 0x00)));
+    CHECK(answered(&r, 0, BYTES(0x3E, 0x01, 0x00), BYTES(0x7F, 0x3E, 0x12)));
+    CHECK(answered(&r, 0, BYTES(0x3E, 0x00, 0x00), BYTES(0x7F, 0x3E, 0x13)));
+    CHECK(answered(&r, 0, BYTES(0x3E, 0x80, 0x00), BYTES(0x7F, 0x3E, 0x13)));
+
+    for (unsigned service = 0; service < 256; service++) {
+        if (service != 0x14 && service != 0x19 && service != 0x22 && service != 0x3E) {
+            CHECK(answered(&r, 0, BYTES((uint8_t)service), BYTES(0x7F, (uint8_t)service, 0x11)));
+            CHECK(answered(&r, 0, BYTES((uint8_t)service, 0x80), BYTES(0x7F, (uint8_t)service, 0x11)));
+            CHECK(answered(&r, 1, BYTES((uint8_t)service), SILENT));
+        }
+    }
+
+    CHECK(answered(&r, 0, BYTES(0x22, 0xF1, 0x90), BYTES(0x62, 0xF1, 0x90, 1, 2, 3)));
+    CHECK(answered(&r, 1, BYTES(0x22, 0xF1, 0x90, 0x12, 0x34, 0xF1, 0x87, 0xF1, 0x90),
+                   BYTES(0x62, 0xF1, 0x90, 1, 2, 3, 0xF1, 0x87, 0x77, 0xF1, 0x90, 1, 2, 3)));
+    CHECK(answered(&r, 0, BYTES(0x22, 0xF1, 0x91), BYTES(0x7F, 0x22, 0x31)));
+    CHECK(answered(&r, 1, BYTES(0x22, 0xF1, 0x91), SILENT));
+    CHECK(answered(&r, 0, BYTES(0x22), BYTES(0x7F, 0x22, 0x13)));
+    CHECK(answered(&r, 0, BYTES(0x22, 0xF1), BYTES(0x7F, 0x22, 0x13)));
+    CHECK(answered(&r, 1, BYTES(0x22, 0xF1, 0x90, 0xF1), BYTES(0x7F, 0x22, 0x13)));
+
+    CHECK(answered(&r, 0, BYTES(0x14), BYTES(0x7F, 0x14, 0x13)));
+    CHECK(answered(&r, 0, BYTES(0x14, 0xFF, 0xFF), BYTES(0x7F, 0x14, 0x13)));
+    CHECK(answered(&r, 1, BYTES(0x14, 0xFF, 0xFF, 0xFF, 0xFF), BYTES(0x7F, 0x14, 0x13)));
+    CHECK(answered(&r, 0, BYTES(0x14, 0xFF, 0xFF, 0xFE), BYTES(0x7F, 0x14, 0x31)));
+    CHECK(answered(&r, 0, BYTES(0x14, 0x01, 0x02, 0x02), BYTES(0x7F, 0x14, 0x31)));
+    CHECK(answered(&r, 1, BYTES(0x14, 0x00, 0x00, 0x00), SILENT));
+    CHECK(same_record(&r, &start));
+
+    model_record expected = start;
+    expected.statuses[2] = 0x50;
+    CHECK(answered(&r, 0, BYTES(0x14, 0xA0, 0x00, 0x00), BYTES(0x54)));
+    CHECK(same_record(&r, &expected));
+    expected.statuses[0] = 0x50;
+    CHECK(answered(&r, 1, BYTES(0x14, 0xFF, 0xFF, 0xFF), BYTES(0x54)));
+    CHECK(same_record(&r, &expected));
+
+    /* 50 AND an availability mask without bit 4; the places past the count stay */
+    r = (model_record){.codes = {7}, .statuses = {0x0B, 0xFF}, .count = 1, .availability = 0x4B};
+    expected = r;
+    expected.statuses[0] = 0x40;
+    CHECK(answered(&r, 0, BYTES(0x14, 0xFF, 0xFF, 0xFF), BYTES(0x54)));
+    CHECK(same_record(&r, &expected));
+    r.count = 0;
+    expected.count = 0;
+    CHECK(answered(&r, 0, BYTES(0x14, 0xFF, 0xFF, 0xFF), BYTES(0x54)));
+    CHECK(answered(&r, 0, BYTES(0x14, 0, 0, 7), BYTES(0x7F, 0x14, 0x31)));
+    CHECK(answered(&r, 0, BYTES(0x19, 0x0A), BYTES(0x59, 0x0A, 0x4B)));
+    CHECK(same_record(&r, &expected));
+
+    /* a code 000000 that lies past the count, and one held */
+    r = (model_record){.availability = 0x49};
+    CHECK(answered(&r, 0, BYTES(0x14, 0, 0, 0), BYTES(0x7F, 0x14, 0x31)));
+    CHECK(answered(&r, 0, BYTES(0x22, 0, 0), BYTES(0x7F, 0x22, 0x31)));
+    CHECK(model_set_status(&r, 0, 0) == 18);
+    r.count = 1;
+    CHECK(answered(&r, 0, BYTES(0x14, 0, 0, 0), BYTES(0x54)));
+    CHECK(r.statuses[0] == 0x40);
+
+    /* the longest report: 63 codes just fit, with status 00 too */
+    r = (model_record){.count = 63, .availability = 0x7F};
+    for (unsigned i = 0; i < 63; i++) {
+        r.codes[i] = i;
+        r.statuses[i] = i == 0 ? 0 : 0x01;
+    }
+    CHECK(ask(&r, 0, BYTES(0x19, 0x0A)).sent == 255 && response[6] == 0 && response[253] == 62);
+    CHECK(ask(&r, 0, BYTES(0x19, 0x02, 0x01)).sent == 251);
+
+    /* data just fit: 7 x 34 + 1 = 239; with 13 + 2 and 14 + 2 more bytes */
+    r = (model_record){.availability = 0x49, .identifiers = {1, 2, 3}, .lengths = {32, 14, 15}, .held = 3};
+    uint8_t request[255] = {0x22};
+    for (unsigned i = 0; i < 7; i++) {
+        request[2 + 2 * i] = 1;
+    }
+    request[16] = 2;
+    model_answer a = ask(&r, 0, request, 17);
+    CHECK(a.refusal == 0 && a.sent == 255);
+    request[16] = 3;
+    CHECK(answered(&r, 0, request, 17, BYTES(0x7F, 0x22, 0x14)));
+    CHECK(answered(&r, 1, request, 17, BYTES(0x7F, 0x22, 0x14)));
+    CHECK(answered(&r, 1, request, 255, BYTES(0x7F, 0x22, 0x14)));
+    /* 84 of 3 bytes fit, 85 do not (1 + 255); 127 asked */
+    r.lengths[0] = 1;
+    for (unsigned i = 0; i < 127; i++) {
+        request[1 + 2 * i] = 0;
+        request[2 + 2 * i] = 1;
+    }
+    CHECK(ask(&r, 0, request, 1 + 2 * 84).sent == 253);
+    CHECK(answered(&r, 0, request, 1 + 2 * 85, BYTES(0x7F, 0x22, 0x14)));
+    CHECK(answered(&r, 0, request, 255, BYTES(0x7F, 0x22, 0x14)));
+    for (unsigned i = 84; i < 127; i++) {
+        request[2 + 2 * i] = 9;
+    }
+    CHECK(ask(&r, 0, request, 255).sent == 253);
+
+    /* 17 */
+    const model_record kept = r;
+    uint8_t long_request[256] = {0x3E, 0x00};
+    memcpy(response_before, response, sizeof response);
+    a = model_serve(&r, long_request, 0, 0, response, 255);
+    CHECK(a.refusal == 17 && a.sent == 0);
+    a = model_serve(&r, NULL, 0, 1, response, 255);
+    CHECK(a.refusal == 17 && a.sent == 0);
+    a = model_serve(&r, long_request, 256, 0, response, 255);
+    CHECK(a.refusal == 17 && a.sent == 0);
+    a = model_serve(&r, long_request, 2, 0, response, 254);
+    CHECK(a.refusal == 17 && a.sent == 0);
+    a = model_serve(&r, long_request, 2, 0, response, 256);
+    CHECK(a.refusal == 17 && a.sent == 0);
+    CHECK(memcmp(response, response_before, sizeof response) == 0 && same_record(&r, &kept));
+    a = ask(&r, 0, long_request, 255);
+    CHECK(a.refusal == 0 && a.sent == 3 && response[2] == 0x13);
+
+    /* the status of one code */
+    r = start;
+    CHECK(model_set_status(&r, 0x010202, 0x80) == 18);
+    CHECK(model_set_status(&r, 0x1010203, 0x00) == 18);
+    CHECK(model_set_status(&r, 0xFFFFFF, 0x00) == 18);
+    CHECK(model_set_status(&r, UINT32_MAX, 0x00) == 18);
+    CHECK(model_set_status(&r, 0x010203, 0x80) == 19);
+    CHECK(same_record(&r, &start));
+    CHECK(model_set_status(&r, 0x010203, 0x7F) == 0 && r.statuses[0] == 0x7F);
+    expected = start;
+    expected.statuses[0] = 0x7F;
+    CHECK(same_record(&r, &expected));
+}
+
+/* A plain reading of the server's rules, into a byte string; its length, 0 when silent. */
+static int plain_server(model_record *r, const uint8_t *q, int n, int is_functional, uint8_t *out)
+{
+    int code = 0, length = 0;
+    const int sub = n > 1 ? q[1] % 128 : -1;
+    const int quiet = n > 1 && q[1] >= 128 && (q[0] == 0x19 || q[0] == 0x3E);
+    uint8_t big[127 * 34 + 1];
+    if (q[0] != 0x14 && q[0] != 0x19 && q[0] != 0x22 && q[0] != 0x3E) {
+        code = 0x11;
+    } else if ((q[0] == 0x19 || q[0] == 0x3E) && n < 2) {
+        code = 0x13;
+    } else if ((q[0] == 0x19 && sub != 1 && sub != 2 && sub != 10) || (q[0] == 0x3E && sub != 0)) {
+        code = 0x12;
+    } else if ((q[0] == 0x14 && n != 4) || (q[0] == 0x19 && sub == 10 && n != 2) ||
+               (q[0] == 0x19 && sub != 10 && n != 3) || (q[0] == 0x22 && (n < 3 || n % 2 == 0)) ||
+               (q[0] == 0x3E && n != 2)) {
+        code = 0x13;
+    } else if (q[0] == 0x14) {
+        const uint32_t group = q[1] * 65536u + q[2] * 256u + q[3];
+        int hit = group == 0xFFFFFF;
+        for (int i = 0; i < r->count; i++) {
+            if (group == 0xFFFFFF || r->codes[i] == group) {
+                r->statuses[i] = 0x50 & r->availability;
+                hit = 1;
+            }
+        }
+        code = hit ? 0 : 0x31;
+        big[length++] = 0x54;
+    } else if (q[0] == 0x19) {
+        int count = 0;
+        big[length++] = 0x59;
+        big[length++] = (uint8_t)sub;
+        big[length++] = r->availability;
+        for (int i = 0; i < r->count; i++) {
+            if (sub == 10 || (r->statuses[i] & q[2])) {
+                count++;
+                if (sub != 1) {
+                    big[length++] = (uint8_t)(r->codes[i] / 65536);
+                    big[length++] = (uint8_t)(r->codes[i] / 256 % 256);
+                    big[length++] = (uint8_t)(r->codes[i] % 256);
+                    big[length++] = r->statuses[i];
+                }
+            }
+        }
+        if (sub == 1) {
+            big[length++] = 3;
+            big[length++] = (uint8_t)(count / 256);
+            big[length++] = (uint8_t)(count % 256);
+        }
+    } else if (q[0] == 0x22) {
+        big[length++] = 0x62;
+        for (int i = 1; i < n; i += 2) {
+            for (int k = 0; k < r->held; k++) {
+                if (r->identifiers[k] == q[i] * 256 + q[i + 1]) {
+                    big[length++] = q[i];
+                    big[length++] = q[i + 1];
+                    for (int b = 0; b < r->lengths[k]; b++) {
+                        big[length++] = r->bytes[32 * k + b];
+                    }
+                }
+            }
+        }
+        code = length == 1 ? 0x31 : length > 255 ? 0x14 : 0;
+    } else {
+        big[length++] = 0x7E;
+        big[length++] = 0;
+    }
+    if (code != 0) {
+        if (is_functional && code != 0x13 && code != 0x14) {
+            return 0;
+        }
+        out[0] = 0x7F;
+        out[1] = q[0];
+        out[2] = (uint8_t)code;
+        return 3;
+    }
+    if (quiet) {
+        return 0;
+    }
+    memcpy(out, big, (size_t)length);
+    return length;
+}
+
+static void test_server_random(void)
+{
+    unsigned long kinds[4] = {0};
+    for (int i = 0; i < 100000; i++) {
+        model_record r = some_record();
+        model_record plain = r;
+        static const uint8_t services[] = {0x14, 0x19, 0x22, 0x22, 0x3E};
+        uint8_t q[255];
+        for (unsigned b = 0; b < sizeof q; b++) {
+            q[b] = (uint8_t)any();
+        }
+        size_t n = 1 + below(below(4) ? 6 : 255);
+        if (below(20)) {
+            q[0] = services[below(5)];
+        }
+        if (q[0] == 0x19 && below(8)) {
+            static const uint8_t subs[] = {1, 2, 10, 0x81, 0x82, 0x8A, 0, 3};
+            q[1] = subs[below(8)];
+            n = below(4) ? (q[1] % 128 == 10 ? 2 : 3) : n;
+        } else if (q[0] == 0x3E && below(8)) {
+            q[1] = (uint8_t)(128 * below(2) + (below(4) ? 0 : 1));
+            n = below(4) ? 2 : n;
+        } else if (q[0] == 0x14 && below(8)) {
+            const uint32_t code = r.count && below(2) ? r.codes[below(r.count)] : 0xFFFFFF;
+            q[1] = (uint8_t)(code >> 16);
+            q[2] = (uint8_t)(code >> 8);
+            q[3] = (uint8_t)(code + (below(6) ? 0 : 1));
+            n = below(4) ? 4 : n;
+        } else if (q[0] == 0x22 && r.held) {
+            const uint32_t misses = below(3);
+            for (size_t at = 1; at + 1 < sizeof q; at += 2) {
+                if (below(3) >= misses) {
+                    const unsigned id = r.identifiers[below(r.held)];
+                    q[at] = (uint8_t)(id >> 8);
+                    q[at + 1] = (uint8_t)id;
+                }
+            }
+            n = below(6) ? n | 1 : n;
+        }
+        const int is_functional = (int)below(2);
+        uint8_t expected[255];
+        const int length = plain_server(&plain, q, (int)n, is_functional, expected);
+        CHECK(answered(&r, is_functional, q, n, expected, (size_t)length));
+        CHECK(same_record(&r, &plain));
+        CHECK(model_record_keeps_rules(&r));
+        kinds[length == 0 ? 0 : expected[0] == 0x7F ? 1 : length < 200 ? 2 : 3]++;
+
+        const uint32_t code = r.count && below(3) ? r.codes[below(r.count)] : any() & 0xFFFFFF;
+        const uint8_t status = (uint8_t)(below(2) ? any() & r.availability : any());
+        model_record set = r;
+        const uint8_t refusal = model_set_status(&set, code, status);
+        int place = -1;
+        for (int k = 0; k < r.count; k++) {
+            if (r.codes[k] == code) {
+                place = k;
+            }
+        }
+        CHECK(refusal == (place < 0 ? 18 : (status & ~r.availability) != 0 ? 19 : 0));
+        if (refusal == 0) {
+            r.statuses[place] = status;
+        }
+        CHECK(same_record(&set, &r));
+    }
+    for (int k = 0; k < 4; k++) {
+        CHECK(kinds[k] > 500);
+    }
+}
+
+/* ---- count sheet --------------------------------------------------------------------------- */
+
+static char text[MODEL_SHEET_TEXT];
+static char text_before[MODEL_SHEET_TEXT];
+
+#define HEADER "position mask available count basis\n"
+
+static int prints(const uint8_t *input, size_t length, const char *expected)
+{
+    uint8_t *own = malloc(length ? length : 1);
+    if (own == NULL) {
+        abort();
+    }
+    memcpy(own, input, length);
+    memset(text, '#', sizeof text);
+    const size_t n = model_count_sheet(own, length, text);
+    free(own);
+    const int same = n == strlen(expected) && memcmp(text, expected, n) == 0;
+    memset(text_before, '#', sizeof text_before);
+    return same && memcmp(text + n, text_before, sizeof text - n) == 0;
+}
+
+static void test_sheet(void)
+{
+    const uint8_t worked[34] = {0x01, 0x00, 0x01, 0x01, 0x02, 0x00, 0x01, 0x08, 0x03,
+                                0x00, 0x06, 0x59, 0x01, 0x7F, 0x03, 0x00, 0x02, 0x01,
+                                0x00, 0x01, 0x02, 0x02, 0x00, 0x01, 0x8C, 0x03, 0x00,
+                                0x06, 0x59, 0x01, 0x4B, 0x03, 0x00, 0x05};
+    CHECK(prints(worked, 34, HEADER "1 08 7F 2 full\n2 8C 4B 5 part\n"));
+    CHECK(prints(worked, 0, HEADER));
+    CHECK(model_count_sheet(NULL, 0, text) == strlen(HEADER));
+    CHECK(prints(worked, 17, HEADER "1 08 7F 2 full\n"));
+
+    /* cut at every place */
+    for (size_t n = 1; n < 34; n++) {
+        char expected[40];
+        const size_t in = n % 17;
+        const size_t field = n - in + (in < 4 ? 0u : in < 8 ? 4u : 8u);
+        if (in != 0) {
+            snprintf(expected, sizeof expected, "refused 22 at %zu\n", field);
+            CHECK(prints(worked, n, expected));
+        }
+    }
+
+    uint8_t input[40];
+#define WITH(at, value, expected)            \
+    do {                                     \
+        memcpy(input, worked, 34);           \
+        input[at] = value;                   \
+        CHECK(prints(input, 34, expected));  \
+    } while (0)
+    WITH(0, 2, "refused 23 at 0\n");
+    WITH(0, 0, "refused 23 at 0\n");
+    WITH(2, 0, "refused 23 at 0\n");
+    WITH(2, 2, "refused 23 at 0\n");
+    WITH(2, 31, "refused 23 at 0\n");
+    WITH(2, 32, "refused 22 at 0\n");
+    WITH(1, 1, "refused 22 at 0\n");
+    WITH(3, 0, "refused 24 at 0\n");
+    WITH(3, 5, HEADER "5 08 7F 2 full\n2 8C 4B 5 part\n");
+    WITH(3, 6, "refused 24 at 0\n");
+    WITH(3, 255, "refused 24 at 0\n");
+    WITH(4, 1, "refused 23 at 4\n");
+    WITH(4, 3, "refused 23 at 4\n");
+    WITH(6, 0, "refused 23 at 4\n");
+    WITH(6, 27, "refused 23 at 4\n");
+    WITH(6, 28, "refused 22 at 4\n");
+    WITH(7, 0x00, HEADER "1 00 7F 2 none\n2 8C 4B 5 part\n");
+    WITH(7, 0x80, HEADER "1 80 7F 2 none\n2 8C 4B 5 part\n");
+    WITH(7, 0xFF, HEADER "1 FF 7F 2 part\n2 8C 4B 5 part\n");
+    WITH(7, 0x7F, HEADER "1 7F 7F 2 full\n2 8C 4B 5 part\n");
+    WITH(8, 2, "refused 23 at 8\n");
+    WITH(10, 5, "refused 23 at 8\n");
+    WITH(10, 7, "refused 23 at 8\n");
+    WITH(10, 23, "refused 23 at 8\n");
+    WITH(10, 24, "refused 22 at 8\n");
+    WITH(11, 0x7F, "refused 24 at 8\n");
+    WITH(12, 0x02, "refused 24 at 8\n");
+    WITH(12, 0x81, "refused 24 at 8\n");
+    WITH(13, 0x7E, "refused 24 at 8\n");
+    WITH(13, 0x7D, "refused 24 at 8\n");
+    WITH(13, 0x6F, "refused 24 at 8\n");
+    WITH(13, 0x00, "refused 24 at 8\n");
+    WITH(13, 0xFF, HEADER "1 08 FF 2 full\n2 8C 4B 5 part\n");
+    WITH(14, 0x02, "refused 24 at 8\n");
+    WITH(15, 0xFF, HEADER "1 08 7F 65282 full\n2 8C 4B 5 part\n");
+    WITH(15, 0x01, HEADER "1 08 7F 258 full\n2 8C 4B 5 part\n");
+    WITH(16, 0x00, HEADER "1 08 7F 0 full\n2 8C 4B 5 part\n");
+    WITH(16, 0x0A, HEADER "1 08 7F 10 full\n2 8C 4B 5 part\n");
+    WITH(17, 0x04, "refused 23 at 17\n");
+    WITH(20, 0x00, "refused 24 at 17\n");
+    WITH(28, 0x00, "refused 24 at 25\n");
+#undef WITH
+    /* the earliest field goes first, then the lowest */
+    memcpy(input, worked, 34);
+    input[3] = 9;
+    CHECK(prints(input, 4, "refused 24 at 0\n"));
+    CHECK(prints(input, 5, "refused 24 at 0\n"));
+    input[0] = 9;
+    CHECK(prints(input, 4, "refused 23 at 0\n"));
+    CHECK(prints(input, 3, "refused 22 at 0\n"));
+    /* one or two stray bytes at the end */
+    memcpy(input, worked, 34);
+    input[34] = input[35] = input[36] = 0;
+    CHECK(prints(input, 35, "refused 22 at 34\n"));
+    CHECK(prints(input, 36, "refused 22 at 34\n"));
+    CHECK(prints(input, 37, "refused 23 at 34\n"));
+
+    /* the longest input: 3,855 readings, the longest lines; one byte more is too long */
+    uint8_t *big = calloc(65537, 1);
+    char *expected = malloc(MODEL_SHEET_TEXT + 1);
+    if (big == NULL || expected == NULL) {
+        abort();
+    }
+    size_t at = (size_t)sprintf(expected, HEADER);
+    for (size_t i = 0; i < 3855; i++) {
+        const uint8_t position = (uint8_t)(1 + below(5));
+        memcpy(big + 17 * i, worked, 17);
+        big[17 * i + 3] = position;
+        big[17 * i + 15] = 0xFF;
+        big[17 * i + 16] = 0xFF;
+        at += (size_t)sprintf(expected + at, "%d 08 7F 65535 full\n", position);
+    }
+    CHECK(at == 73281 && prints(big, 65535, expected));
+    CHECK(prints(big, 65536, "refused 21 at 0\n"));
+    /* a length of two bytes, high first */
+    big[1] = 1;
+    big[2] = 0;
+    CHECK(prints(big, 258, "refused 22 at 0\n"));
+    CHECK(prints(big, 259, "refused 23 at 0\n"));
+    big[1] = 0xFF;
+    big[2] = 0xFC;
+    CHECK(prints(big, 65534, "refused 22 at 0\n"));
+    CHECK(prints(big, 65535, "refused 23 at 0\n"));
+    big[2] = 0xFD;
+    CHECK(prints(big, 65535, "refused 22 at 0\n"));
+    big[1] = 0;
+    big[2] = 1;
+    big[0] = 9;
+    CHECK(prints(big, 65536, "refused 21 at 0\n"));
+    CHECK(prints(big, 65535, "refused 23 at 0\n"));
+    big[0] = 1;
+    CHECK(prints(big, 65534, "refused 22 at 65526\n"));
+    big[65535 - 9 + 3] = 0;
+    CHECK(prints(big, 65535, "refused 24 at 65526\n"));
+    CHECK(model_count_sheet(NULL, SIZE_MAX, text) == 16);
+    free(big);
+
+    /* random readings, sometimes with a changed byte, always answered */
+    unsigned long refused = 0, printed = 0;
+    for (int i = 0; i < 100000; i++) {
+        uint8_t some[17 * 4 + 5];
+        const size_t count = below(5);
+        size_t length = 17 * count;
+        at = (size_t)sprintf(expected, HEADER);
+        for (size_t k = 0; k < count; k++) {
+            uint8_t *const to = some + 17 * k;
+            memcpy(to, worked, 17);
+            to[3] = (uint8_t)(1 + below(5));
+            to[7] = (uint8_t)(any() & any());
+            do {
+                to[13] = (uint8_t)(any() | 0x49);
+            } while (!model_mask_keeps_rule(to[13]));
+            to[15] = (uint8_t)any();
+            to[16] = (uint8_t)any();
+            const int both = to[7] & to[13];
+            at += (size_t)sprintf(expected + at, "%d %02X %02X %d %s\n", to[3], to[7], to[13],
+                                  to[15] * 256 + to[16],
+                                  both == 0 ? "none" : both == to[7] ? "full" : "part");
+        }
+        CHECK(prints(some, length, expected));
+        if (length && below(2)) {
+            some[below((uint32_t)length)] ^= (uint8_t)(1u << below(8));
+        }
+        const uint32_t stray = below(6);
+        for (uint32_t k = 0; k < stray; k++) {
+            some[length++] = (uint8_t)below(4);
+        }
+        uint8_t *own = malloc(length ? length : 1);
+        if (own == NULL) {
+            abort();
+        }
+        memcpy(own, some, length);
+        const size_t n = model_count_sheet(own, length, text);
+        free(own);
+        CHECK(n > 0 && text[n - 1] == '\n');
+        if (text[0] == 'r') {
+            refused++;
+        } else {
+            printed++;
+            CHECK(memcmp(text, HEADER, strlen(HEADER)) == 0);
+        }
+    }
+    CHECK(refused > 1000 && printed > 1000);
+    free(expected);
+}
+
+int main(void)
+{
+    test_identifier();
+    test_vehicle();
+    test_route();
+    test_readings();
+    test_node();
+    test_receiver_worked();
+    test_receiver_order();
+    test_receiver_open();
+    test_cutter();
+    test_trains();
+    test_record_rules();
+    test_server_worked();
+    test_server_random();
+    test_sheet();
+    printf("selftest: %lu checks, all passed\n", checks);
+    return 0;
+}
