@@ -32,7 +32,7 @@ compiled() {
     for word in "${objects[@]}"; do
         object=$program-$(basename "$word" .c).o
         # shellcheck disable=SC2086
-        "$tools/bin/clang" --target=x86_64-linux-gnu -ffreestanding -fPIE -nostdinc -isystem "$host/kit" $flags "${options[@]}" \
+        "$tools/bin/clang" --target=x86_64-linux-gnu -fPIE -nostdinc -isystem "$host/kit" $flags "${options[@]}" \
             -c "$word" -o "$object" || return
         made+=("$object")
     done

@@ -5,5 +5,6 @@ typedef struct kit_file FILE;
 extern FILE *stderr;
 int printf(const char *format, ...);
 int fprintf(FILE *to, const char *format, ...);
+int sprintf(char *to, const char *format, ...);
 int snprintf(char *to, size_t count, const char *format, ...);
 #endif

@@ -1,0 +1,373 @@
+/*
+ * One kind of work done again and again, by the archive or by the model, so that two runs of different length differ by
+ * the work alone.
+ *
+ *     bench                            the names of the works, and how many calls a round has
+ *     bench archive|model WORK ROUNDS  does it, and prints nothing: for a counter of instructions
+ *     bench time WORK ROUNDS           nanoseconds a call, of the archive and of the model: the best of nine turns
+ *     bench stack WORK                 bytes of stack below the caller's, of the archive and of the model
+ */
+#include "castanhiu.h"
+#include "model.h"
+
+#include <stdio.h>
+#include <stdlib.h>
+#include <string.h>
+#include <time.h>
+
+static volatile unsigned long sink;
+
+/* ---- frames received ----------------------------------------------------------------------- */
+
+typedef struct {
+    uint32_t number, stamp;
+    uint8_t data[8];
+    uint8_t length;
+} line;
+
+static line lines[4096];
+static unsigned offered;
+
+static void add(castanhiu_frame frame, uint32_t stamp)
+{
+    line *const l = &lines[offered++];
+    l->number = frame.identifier;
+    l->stamp = stamp;
+    memcpy(l->data, frame.data, 8);
+    l->length = frame.length;
+}
+
+static uint8_t message[255];
+
+/* Three senders, one frame of each in turn: 3 x 43 frames for 3 x 255 bytes. */
+static void trains(void)
+{
+    for (size_t i = 0; i < 43; i++) {
+        for (uint8_t from = 0; from < 4; from++) {
+            if (from != 1) {
+                add(castanhiu_cut(message, 255, i, from, 1, 5), (uint32_t)(20 * i + from));
+            }
+        }
+    }
+}
+
+static void singles(void)
+{
+    for (uint8_t length = 1; length <= 6; length++) {
+        add(castanhiu_cut(message, length, 0, (uint8_t)(length % 2 == 0 ? 0 : 2), 1, 5), length);
+    }
+}
+
+/* One frame for each of refusals 2, 4 to 10 and 12, of those that are by far the most on a bus: other vehicles' traffic. */
+static void refused(void)
+{
+    castanhiu_frame f = castanhiu_cut(message, 6, 0, 0, 1, 5);
+    const uint32_t numbers[] = {0x18CEC1EB, 0x18FEC9EB, 0x1ACEC9EB, 0x18CEC900, 0x18CEC9C9, 0x19CEC9EB, 0x38CEC9EB, 0x18CDC9EB};
+    for (unsigned i = 0; i < sizeof numbers / sizeof numbers[0]; i++) {
+        f.identifier = numbers[i];
+        add(f, i);
+    }
+    f.identifier = 0x18CEC9EB;
+    f.data[0] = 6;
+    add(f, 20);
+    f.data[0] = 5;
+    f.data[1] = 0x30;
+    add(f, 21);
+    f.data[1] = 0x21;
+    add(f, 22);
+    f.data[1] = 0x50;
+    add(f, 23);
+}
+
+/* A realistic mix: three trains side by side, a single frame after every third, a refused one after every second. */
+static void mix(void)
+{
+    trains();
+    const unsigned count = offered;
+    line train[256];
+    memcpy(train, lines, count * sizeof train[0]);
+    offered = 0;
+    singles();
+    refused();
+    line others[32];
+    const unsigned other = offered;
+    memcpy(others, lines, other * sizeof others[0]);
+    offered = 0;
+    for (unsigned i = 0; i < count; i++) {
+        lines[offered++] = train[i];
+        if (i % 3 == 2) { /* single frames come from a fourth vehicle, so that they end no train */
+            lines[offered] = others[(i / 3) % 6];
+            lines[offered].number = 0x18CEC9A9;
+            lines[offered++].stamp = train[i].stamp;
+        }
+        if (i % 2 == 1) {
+            lines[offered] = others[6 + (i / 2) % (other - 6)];
+            lines[offered++].stamp = train[i].stamp;
+        }
+    }
+}
+
+static void receive_archive(unsigned long rounds)
+{
+    static uint8_t buffer[CASTANHIU_BUFFER];
+    castanhiu_node node = castanhiu_start(5);
+    for (unsigned long r = 0; r < rounds; r++) {
+        for (unsigned i = 0; i < offered; i++) {
+            const line *const l = &lines[i];
+            const castanhiu_receive_answer a =
+                castanhiu_receive(node, buffer, sizeof buffer, l->number, l->data, l->length, l->stamp);
+            node = a.node;
+            sink += a.outcome.length;
+        }
+    }
+}
+
+static void receive_model(unsigned long rounds)
+{
+    static uint8_t buffer[MODEL_BUFFER_LENGTH];
+    model_node node = model_start(5);
+    for (unsigned long r = 0; r < rounds; r++) {
+        for (unsigned i = 0; i < offered; i++) {
+            const line *const l = &lines[i];
+            const model_outcome a = model_receive(&node, buffer, sizeof buffer, l->number, l->data, l->length, l->stamp);
+            sink += a.length;
+        }
+    }
+}
+
+/* ---- requests served ----------------------------------------------------------------------- */
+
+static castanhiu_record record;
+static uint8_t request[16];
+static size_t request_length;
+
+static void full_record(void)
+{
+    record.availability = 0x7F;
+    record.count = 63;
+    record.held = 16;
+    for (unsigned i = 0; i < 63; i++) {
+        record.codes[i] = 0x010203 + 16 * i;
+        record.statuses[i] = i % 2 == 0 ? 0x08 : 0x09;
+    }
+    for (unsigned k = 0; k < 16; k++) {
+        record.identifiers[k] = (uint16_t)(0xF180 + k);
+        record.lengths[k] = 17;
+    }
+}
+
+static void near_empty_record(void)
+{
+    record.availability = 0x7F;
+    record.count = 1;
+    record.codes[0] = 0x010203;
+    record.statuses[0] = 0x08;
+    record.held = 1;
+    record.identifiers[0] = 0xF190;
+    record.lengths[0] = 17;
+}
+
+static void asks(size_t length, const uint8_t *bytes)
+{
+    request_length = length;
+    memcpy(request, bytes, length);
+}
+
+#define ASKS(...) asks(sizeof((const uint8_t[]){__VA_ARGS__}), (const uint8_t[]){__VA_ARGS__})
+
+static void full_3e(void) { full_record(); ASKS(0x3E, 0x00); }
+static void full_1901(void) { full_record(); ASKS(0x19, 0x01, 0x08); }
+static void full_1902(void) { full_record(); ASKS(0x19, 0x02, 0x08); }
+static void full_22(void) { full_record(); ASKS(0x22, 0xF1, 0x80, 0xF1, 0x85, 0xF1, 0x8A, 0xF1, 0x8F); }
+static void full_14(void) { full_record(); ASKS(0x14, 0x01, 0x04, 0xE3); }
+static void empty_3e(void) { near_empty_record(); ASKS(0x3E, 0x00); }
+static void empty_1901(void) { near_empty_record(); ASKS(0x19, 0x01, 0x08); }
+static void empty_22(void) { near_empty_record(); ASKS(0x22, 0xF1, 0x90); }
+static void empty_14(void) { near_empty_record(); ASKS(0x14, 0x01, 0x02, 0x03); }
+
+static void serve_archive(unsigned long rounds)
+{
+    uint8_t response[CASTANHIU_RESPONSE] = {0};
+    for (unsigned long r = 0; r < rounds; r++) {
+        sink += castanhiu_serve(&record, request, request_length, false, response, sizeof response).length;
+    }
+}
+
+static void serve_model(unsigned long rounds)
+{
+    uint8_t response[MODEL_RESPONSE_LENGTH] = {0};
+    model_record own;
+    memcpy(&own, &record, sizeof own);
+    for (unsigned long r = 0; r < rounds; r++) {
+        sink += model_serve(&own, request, request_length, 0, response, sizeof response).sent;
+    }
+}
+
+/* ---- frames cut ---------------------------------------------------------------------------- */
+
+static void nothing(void) {}
+
+static void cut_archive(unsigned long rounds)
+{
+    for (unsigned long r = 0; r < rounds; r++) {
+        for (size_t i = 0; i < 43; i++) {
+            sink += castanhiu_cut(message, 255, i, 1, 0, 5).length;
+        }
+    }
+}
+
+static void cut_model(unsigned long rounds)
+{
+    for (unsigned long r = 0; r < rounds; r++) {
+        for (uint32_t i = 0; i < 43; i++) {
+            sink += model_cut(message, 255, i, 1, 0, 5).length;
+        }
+    }
+}
+
+/* ---- a full sheet -------------------------------------------------------------------------- */
+
+static uint8_t input[65535];
+
+static void full_sheet(void)
+{
+    for (unsigned i = 0; i < 3855; i++) {
+        const uint8_t reading[17] = {1, 0, 1, (uint8_t)(1 + i % 5), 2, 0, 1, (uint8_t)(0x08 + i % 3), 3, 0, 6, 0x59, 0x01, 0x4B, 0x03,
+                                     (uint8_t)(i >> 8), (uint8_t)i};
+        memcpy(input + 17 * i, reading, 17);
+    }
+}
+
+static void sheet_archive(unsigned long rounds)
+{
+    static uint8_t page[CASTANHIU_PAGE];
+    for (unsigned long r = 0; r < rounds; r++) {
+        sink += castanhiu_sheet_text(input, sizeof input, page);
+    }
+}
+
+static void sheet_model(unsigned long rounds)
+{
+    static char page[MODEL_SHEET_TEXT];
+    for (unsigned long r = 0; r < rounds; r++) {
+        sink += model_count_sheet(input, sizeof input, page);
+    }
+}
+
+/* ---- the table ----------------------------------------------------------------------------- */
+
+typedef struct {
+    const char *name;
+    unsigned calls; /* in a round; 0: the frames offered */
+    void (*prepare)(void);
+    void (*archive)(unsigned long);
+    void (*model)(unsigned long);
+} work;
+
+static const work works[] = {
+    {"receive-mix", 0, mix, receive_archive, receive_model},
+    {"receive-trains", 0, trains, receive_archive, receive_model},
+    {"receive-singles", 0, singles, receive_archive, receive_model},
+    {"receive-refused", 0, refused, receive_archive, receive_model},
+    {"serve-3E-full", 1, full_3e, serve_archive, serve_model},
+    {"serve-1901-full", 1, full_1901, serve_archive, serve_model},
+    {"serve-1902-full", 1, full_1902, serve_archive, serve_model},
+    {"serve-22-full", 1, full_22, serve_archive, serve_model},
+    {"serve-14-full", 1, full_14, serve_archive, serve_model},
+    {"serve-3E-near-empty", 1, empty_3e, serve_archive, serve_model},
+    {"serve-1901-near-empty", 1, empty_1901, serve_archive, serve_model},
+    {"serve-22-near-empty", 1, empty_22, serve_archive, serve_model},
+    {"serve-14-near-empty", 1, empty_14, serve_archive, serve_model},
+    {"cut", 43, nothing, cut_archive, cut_model},
+    {"sheet-full", 1, full_sheet, sheet_archive, sheet_model},
+};
+
+enum { WORKS = sizeof works / sizeof works[0] };
+
+/* ---- time and stack ------------------------------------------------------------------------ */
+
+static double best(void (*does)(unsigned long), unsigned long rounds, double before)
+{
+    const clock_t began = clock();
+    does(rounds);
+    const double took = (double)(clock() - began) * (1e9 / (double)CLOCKS_PER_SEC);
+    return before == 0 || took < before ? took : before;
+}
+
+static void print_time(const work *w, unsigned calls, unsigned long rounds)
+{
+    double archive = 0, model = 0;
+    for (unsigned turn = 0; turn < 9; turn++) {
+        archive = best(w->archive, rounds, archive);
+        model = best(w->model, rounds, model);
+    }
+    const double count = (double)calls * (double)rounds;
+    printf("%.1f %.1f\n", archive / count, model / count);
+}
+
+enum { AREA = 16384 };
+
+static __attribute__((noinline)) void paint(void)
+{
+    volatile uint8_t area[AREA];
+    for (unsigned i = 0; i < AREA; i++) {
+        area[i] = 0xA5;
+    }
+}
+
+/* How much of the painted area has been written since. */
+static __attribute__((noinline)) unsigned scan(void)
+{
+    volatile uint8_t area[AREA];
+    unsigned i = 0;
+    while (i < AREA && area[i] == 0xA5) {
+        i++;
+    }
+    return AREA - i;
+}
+
+static void idle(unsigned long rounds)
+{
+    sink += rounds;
+}
+
+static __attribute__((noinline)) unsigned depth(void (*does)(unsigned long))
+{
+    paint();
+    does(1);
+    return scan();
+}
+
+static void print_stack(const work *w)
+{
+    const unsigned none = depth(idle);
+    const unsigned archive = depth(w->archive), model = depth(w->model);
+    printf("%u %u\n", archive - none, model - none);
+}
+
+int main(int argc, char **argv)
+{
+    for (unsigned i = 0; i < sizeof message; i++) {
+        message[i] = (uint8_t)(7 * i);
+    }
+    for (unsigned i = 0; i < WORKS; i++) {
+        const work *const w = &works[i];
+        if (argc > 2 && strcmp(argv[2], w->name) != 0) {
+            continue;
+        }
+        offered = 0;
+        w->prepare();
+        const unsigned calls = w->calls != 0 ? w->calls : offered;
+        const unsigned long rounds = argc > 3 ? strtoul(argv[3], NULL, 0) : 0;
+        if (argc == 1) {
+            printf("%s %u\n", w->name, calls);
+        } else if (strcmp(argv[1], "time") == 0) {
+            print_time(w, calls, rounds);
+        } else if (strcmp(argv[1], "stack") == 0) {
+            print_stack(w);
+        } else {
+            (strcmp(argv[1], "archive") == 0 ? w->archive : w->model)(rounds);
+        }
+    }
+    return 0;
+}
