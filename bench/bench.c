@@ -187,7 +187,7 @@ static void empty_14(void) { near_empty_record(); ASKS(0x14, 0x01, 0x02, 0x03); 
 
 static void serve_archive(unsigned long rounds)
 {
-    uint8_t response[CASTANHIU_RESPONSE] = {0};
+    static uint8_t response[CASTANHIU_RESPONSE];
     for (unsigned long r = 0; r < rounds; r++) {
         sink += castanhiu_serve(&record, request, request_length, false, response, sizeof response).length;
     }
@@ -195,8 +195,8 @@ static void serve_archive(unsigned long rounds)
 
 static void serve_model(unsigned long rounds)
 {
-    uint8_t response[MODEL_RESPONSE_LENGTH] = {0};
-    model_record own;
+    static uint8_t response[MODEL_RESPONSE_LENGTH];
+    static model_record own;
     memcpy(&own, &record, sizeof own);
     for (unsigned long r = 0; r < rounds; r++) {
         sink += model_serve(&own, request, request_length, 0, response, sizeof response).sent;
@@ -331,8 +331,10 @@ static void idle(unsigned long rounds)
     sink += rounds;
 }
 
+/* Once before, so that what the C library binds at a first call is bound. */
 static __attribute__((noinline)) unsigned depth(void (*does)(unsigned long))
 {
+    does(1);
     paint();
     does(1);
     return scan();
