@@ -8,4 +8,3 @@ pub mod LawsServer
 pub mod LawsCleared
 pub mod Demand2
 pub mod Demand2Services
-pub mod Worked
