@@ -1,0 +1,107 @@
+// Document 003, tables 1 and 3: what PS is, the addresses and their neighbours; and the address that a trailer takes.
+use crate::line::decimal;
+use crate::line::hex;
+use crate::line::newline;
+use crate::line::refused;
+use crate::line::say;
+use identifiers::Identifier;
+use identifiers::Target;
+use readings::Position;
+use readings::Vehicle;
+
+fn specific(format: u8) {
+    let fields = Identifier {
+        priority: 6,
+        data_page: 0,
+        format,
+        specific: 0xC9,
+        source: 0xEB,
+    };
+    say(b"003 table 1: PF ");
+    decimal(format as usize);
+    match fields.target() {
+        Target::Destination(address) => {
+            say(b": destination ");
+            hex(address);
+        }
+        Target::GroupExtension(extension) => {
+            say(b": group extension ");
+            hex(extension);
+        }
+    }
+    newline();
+}
+
+fn neighbour(vehicle: Vehicle) {
+    match vehicle {
+        Vehicle::At(position) => decimal(position.place() as usize),
+        Vehicle::NoVehicle => say(b"none"),
+    }
+}
+
+fn address(address: u8) {
+    say(b"003 table 3: ");
+    hex(address);
+    match Position::of_address(address) {
+        Vehicle::At(position) => {
+            say(b": position ");
+            decimal(position.place() as usize);
+            say(b", predecessor ");
+            neighbour(position.predecessor());
+            say(b", successor ");
+            neighbour(position.successor());
+            say(b", written ");
+            hex(position.address());
+        }
+        Vehicle::NoVehicle => say(b": no vehicle"),
+    }
+    newline();
+}
+
+fn taken(source: u8) {
+    say(b"003 6.2: predecessor ");
+    hex(source);
+    say(b": ");
+    let told = Position::after(source).told();
+    if refused(told.refusal) {
+        return;
+    }
+    say(b"own position ");
+    decimal(told.own as usize);
+    newline();
+}
+
+fn table_1() {
+    specific(0);
+    specific(239);
+    specific(240);
+    specific(255);
+}
+
+fn table_3() {
+    address(0xEB);
+    address(0xC9);
+    address(0xC1);
+    address(0xB9);
+    address(0xB1);
+    address(0xA9);
+    address(0xFF);
+    address(0xC8);
+}
+
+fn taking() {
+    taken(0xEB);
+    taken(0xC9);
+    taken(0xC1);
+    taken(0xB9);
+    taken(0xB1);
+    taken(0xA9);
+    taken(0xFF);
+    taken(0xC8);
+}
+
+pub fn run() {
+    table_1();
+    table_3();
+    taking();
+}
