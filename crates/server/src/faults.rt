@@ -41,7 +41,7 @@ pub fn count_listed(statuses: &[u8; 63], all: bool, mask: u8, count: usize) -> u
     requires { ⌜ count ≤ 63 ⌝ }
     ensures { λ r. ⌜ r ≡ countListed (now (statuses .entry)) all mask count ⌝ }
 {
-    let mut n: usize = 0;
+    let mut n: u8 = 0;
     let mut i = 0;
     while i < count {
         if is_listed(all, mask, statuses[i]) {
@@ -49,7 +49,7 @@ pub fn count_listed(statuses: &[u8; 63], all: bool, mask: u8, count: usize) -> u
         }
         i += 1;
     }
-    n
+    n as usize
 }
 
 // Writes a number in two bytes, high first, and says where the next byte goes.

@@ -6,7 +6,6 @@ use native.Mathlib.Omega.{arith}
 use borrow.Author.Needs.{needs}
 use lib.ListN.{getD}
 use Rattle.identifiers.specs.Below.{countBelow}
-use Rattle.identifiers.proofs.LawsChoice.{taken}
 use Rattle.identifiers.proofs.LawsBelow.{count-none, count-hit, count-miss}
 use Rattle.server.specs.Faults.{listed, countListed}
 use Rattle.server.proofs.faults.count_listed.Statement.{statement}
@@ -43,4 +42,5 @@ count-listed-spec = tie.close (tie.spec
     (λ c. search needs)
     (λ c. search needs)
     loop-again
+    (λ c. search needs)
     returns)
