@@ -1,13 +1,19 @@
 -- What a record that keeps its rules has, rule by rule.
-use mathlib.Core.Path.{_≡_}
-use mathlib.Core.Bool.{Bool, true, _&&_}
+use mathlib.Core.Path.{_≡_, refl, sym, ap}
+use mathlib.Core.Bool.{Bool, true, false, _&&_}
+use mathlib.Core.Logic.{⊎-elim}
 use mathlib.Core.List.{List}
-use Prim.Native.Nat.{ℕ, _≤_, _<_}
-use borrow.Author.Tests.{leb-true}
+use Prim.Native.Nat.{ℕ, zero, suc, _+_, _-_, _≤_, _<_}
+use native.Mathlib.Nat.{eq-or-lt-of-le}
+use native.Mathlib.Numerals.{add-one}
+use native.Mathlib.Omega.{arith}
+use borrow.Author.Tests.{leb-true, ltb-true, lt-ltb}
+use lib.Dec.{ltb}
 use lib.ListN.{getD}
 use Rattle.identifiers.specs.Choice.{both}
-use Rattle.identifiers.proofs.LawsChoice.{both-true, and-is}
-use Rattle.identifiers.proofs.LawsBelow.{all-at}
+use Rattle.identifiers.specs.Below.{allBelow}
+use Rattle.identifiers.proofs.LawsChoice.{stop, so, both-true, both-false, and-is}
+use Rattle.identifiers.proofs.LawsBelow.{all-at, all-each, all-fails}
 use Rattle.server.specs.Mask.{maskKept}
 use Rattle.server.specs.Trailer.{ascending, codesBelow, statusesWithin, lengthsWithin, soundRecord, soundFields}
 use Rattle.server.specs.declared.trailer.TrailerRecord.{TrailerRecord}
@@ -38,6 +44,29 @@ pub length-within : (lengths : List ℕ) (held k : ℕ) → lengthsWithin length
 unfolding lengthsWithin
 length-within lengths held k e l = let b = both-true _ _ (all-at _ k held e l) in (leb-true _ _ (b .0), leb-true _ _ (b .1))
 
--- six tests in a row, as the code and as the definition joins them
-pub six-tests : (a b c d e f : Bool) → (((((a && b) && c) && d) && e) && f) ≡ both (both (both (both (both a b) c) d) e) f
-six-tests a b c d e f = simp and-is
+-- ---- the codes: the last of those that ascend is the greatest
+last-greatest : (codes : List ℕ) (n : ℕ) → allBelow (λ i. ltb (getD codes i 0) (getD codes (i + 1) 0)) n ≡ true → (i : ℕ) → i ≤ n → getD codes i 0 ≤ getD codes n 0
+unfolding allBelow
+last-greatest codes zero e i l = let q : i ≡ zero = omega arith in rw q (omega arith)
+last-greatest codes (suc n) e i l =
+    let s = both-true _ _ e in
+    ⊎-elim (λ (q : i ≡ suc n). rw q (omega arith))
+    (λ (q : i < suc n). omega (arith, last-greatest codes n (s .0) i (omega arith), ltb-true (getD codes n 0) (getD codes (n + 1) 0) (s .1), ap (λ (k : ℕ). getD codes k 0) (add-one n))) (eq-or-lt-of-le l)
+
+pub codes-by-last : (codes : List ℕ) (count : ℕ) → 0 < count → (ascending codes count && ltb (getD codes (count - 1) 0) 0xFFFFFF) ≡ both (codesBelow codes count) (ascending codes count)
+unfolding ascending codesBelow
+codes-by-last codes count l = by (ascending codes count) (ltb (getD codes (count - 1) 0) 0xFFFFFF) refl refl
+  where
+    by : (a b : Bool) → ascending codes count ≡ a → ltb (getD codes (count - 1) 0) 0xFFFFFF ≡ b → (a && b) ≡ both (codesBelow codes count) a
+    by false b p q = sym (both-false (codesBelow codes count))
+    by true false p q = stop true (all-fails _ (count - 1) count (omega arith) q)
+    by true true p q = so (all-each _ count (λ i h. lt-ltb (getD codes i 0) 0xFFFFFF (omega (arith, last-greatest codes (count - 1) p i (omega arith), ltb-true (getD codes (count - 1) 0) 0xFFFFFF q)))) refl
+
+-- the tests of a record in a row, as the code and as the definition joins them
+both-joins : (a b c : Bool) → both a (both b c) ≡ both (both a b) c
+unfolding both
+both-joins true b c = refl
+both-joins false b c = refl
+
+pub tests-in-a-row : (a b c d e f : Bool) → ((((a && both b c) && d) && e) && f) ≡ both (both (both (both (both a b) c) d) e) f
+tests-in-a-row a b c d e f = simp (and-is, both-joins)

@@ -1,8 +1,9 @@
-// The trailer record, and the test of its rules: each rule is one loop over one array.
+// The trailer record, and the test of its rules: one loop over each array.
 use crate::mask::mask_kept;
 use identifiers::Refusal;
 ghost use mathlib.Core.Path.{_≡_};
 ghost use Prim.Native.Nat.{_≤_};
+ghost use Rattle.identifiers.specs.Choice.{both};
 ghost use Rattle.server.specs.Trailer.{ascending, codesBelow, statusWithin, statusesWithin, lengthsWithin, soundFields, checkedAs};
 ghost use Rattle.server.specs.Told.{checkedTold};
 
@@ -30,19 +31,6 @@ pub struct RecordCheckedTold {
     pub refusal: u8,
 }
 
-fn codes_below(codes: &[u32; 63], count: usize) -> bool
-    requires { ⌜ count ≤ 63 ⌝ }
-    ensures { λ r. ⌜ r ≡ codesBelow (now (codes .entry)) count ⌝ }
-{
-    let mut kept = true;
-    let mut i = 0;
-    while i < count {
-        kept = kept & (codes[i] < 0xFFFFFF);
-        i += 1;
-    }
-    kept
-}
-
 fn codes_ascend(codes: &[u32; 63], count: usize) -> bool
     requires { ⌜ count ≤ 63 ⌝ }
     ensures { λ r. ⌜ r ≡ ascending (now (codes .entry)) count ⌝ }
@@ -54,6 +42,18 @@ fn codes_ascend(codes: &[u32; 63], count: usize) -> bool
         i += 1;
     }
     kept
+}
+
+// The last of codes that ascend is the greatest: it alone is held against FFFFFF.
+fn codes_kept(codes: &[u32; 63], count: usize) -> bool
+    requires { ⌜ count ≤ 63 ⌝ }
+    ensures { λ r. ⌜ r ≡ both (codesBelow (now (codes .entry)) count) (ascending (now (codes .entry)) count) ⌝ }
+{
+    if count == 0 {
+        return true;
+    }
+    let last = count - 1;
+    codes_ascend(codes, count) & (codes[last] < 0xFFFFFF)
 }
 
 pub fn status_within(availability: u8, status: u8) -> bool
@@ -119,8 +119,7 @@ pub fn sound<'a>(
         return false;
     }
     mask_kept(availability)
-        & codes_below(codes, count as usize)
-        & codes_ascend(codes, count as usize)
+        & codes_kept(codes, count as usize)
         & statuses_within(statuses, availability, count as usize)
         & identifiers_ascend(identifiers, held as usize)
         & lengths_within(lengths, held as usize)

@@ -4,7 +4,7 @@ use borrow.Author.Tests.{le-leb, lt-leb}
 use borrow.Author.Needs.{needs}
 use Rattle.identifiers.proofs.LawsChoice.{taken, stop, so}
 use Rattle.server.specs.Trailer.{soundFields}
-use Rattle.server.proofs.LawsTrailer.{six-tests}
+use Rattle.server.proofs.LawsTrailer.{tests-in-a-row}
 use Rattle.server.proofs.trailer.sound.Statement.{statement}
 use Rattle.server.proofs.trailer.sound.Tie as tie
 
@@ -19,18 +19,16 @@ returns-2 c = stop _ (sym (so (le-leb _ _ (c .before .if1 .left)) (sym (lt-leb _
 returns-3 : tie.Need-returns-3
 unfolding soundFields
 returns-3 c =
-    let at-codes-ascend = c .before .before .before in
-    let at-codes-below = at-codes-ascend .before in
-    let at-mask-kept = at-codes-below .before in
+    let at-codes-kept = c .before .before .before in
+    let at-mask-kept = at-codes-kept .before in
     let at-if2 = at-mask-kept .before in
     let at-if1 = at-if2 .before in
-    so (sym (so (le-leb _ _ (at-if1 .if1 .left)) (sym (le-leb _ _ (at-if2 .if2 .left))))) (rw ((at-mask-kept .mask-kept .ensures), (at-codes-below .codes-below .ensures), (at-codes-ascend .codes-ascend .ensures), (c .before .before .statuses-within .ensures), (c .before .identifiers-ascend .ensures), (c .lengths-within .ensures)) (six-tests _ _ _ _ _ _))
+    so (sym (so (le-leb _ _ (at-if1 .if1 .left)) (sym (le-leb _ _ (at-if2 .if2 .left))))) (rw ((at-mask-kept .mask-kept .ensures), (at-codes-kept .codes-kept .ensures), (c .before .before .statuses-within .ensures), (c .before .identifiers-ascend .ensures), (c .lengths-within .ensures)) (tests-in-a-row _ _ _ _ _ _))
 
 pub sound-spec : {M : Type 1} → statement M
 sound-spec = tie.close (tie.spec
     returns
     returns-2
-    (λ c κs. search needs)
     (λ c κs. search needs)
     (λ c κs. search needs)
     (λ c κs. search needs)
