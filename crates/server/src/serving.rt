@@ -13,7 +13,6 @@ ghost use mathlib.Core.Path.{_≡_};
 ghost use Prim.Native.Nat.{_≤_};
 ghost use lib.ListN.{length};
 ghost use Rattle.server.specs.Requests.{formOf};
-ghost use mathlib.Core.Bool.{true};
 ghost use Rattle.server.specs.Trailer.{soundRecord};
 ghost use Rattle.server.specs.Server.{recordOf, statusesAfter, wrongLengths, outcomeOf};
 ghost use Rattle.server.specs.Told.{answerTold};
@@ -84,7 +83,7 @@ fn statuses_after(
     statuses
 }
 
-// What a request whose record keeps its rules leaves behind: the statuses and the answer.
+// What a request leaves behind: the statuses and the answer.
 pub struct Responded {
     pub statuses: [u8; 63],
     pub answer: Answer,
@@ -96,8 +95,10 @@ fn leaves(statuses: [u8; 63], answer: Answer) -> Responded
     Responded { statuses, answer }
 }
 
-// Answers one request, refusal 17 for the lengths. The negative code, the length and the silence are known before the first byte is written.
+// Answers one request: refusal 1 where the record did not keep its rules, 17 for the lengths.
+// The negative code, the length and the silence are known before the first byte is written.
 fn respond<'a>(
+    kept: bool,
     codes: &'a [u32; 63],
     statuses: [u8; 63],
     count: usize,
@@ -110,11 +111,14 @@ fn respond<'a>(
     functional: bool,
     response: &mut [u8],
 ) -> Responded
-    requires { ⌜ soundRecord (recordOf (now codes) statuses count availability (now identifiers) (now lengths) (now bytes) held) ≡ true ⌝ }
+    requires { ⌜ kept ≡ soundRecord (recordOf (now codes) statuses count availability (now identifiers) (now lengths) (now bytes) held) ⌝ }
     ensures { λ r. ⌜ (r .statuses ≡ outcomeOf (recordOf (now (codes .entry)) statuses count availability (now (identifiers .entry)) (now (lengths .entry)) (now (bytes .entry)) held) (now (request .entry)) functional (now (response .entry)) .after .statuses)
         × ((r .answer ≡ outcomeOf (recordOf (now (codes .entry)) statuses count availability (now (identifiers .entry)) (now (lengths .entry)) (now (bytes .entry)) held) (now (request .entry)) functional (now (response .entry)) .answer)
         × (now (response .exit) ≡ outcomeOf (recordOf (now (codes .entry)) statuses count availability (now (identifiers .entry)) (now (lengths .entry)) (now (bytes .entry)) held) (now (request .entry)) functional (now (response .entry)) .response)) ⌝ }
 {
+    if !kept {
+        return leaves(statuses, Answer::Refused(Refusal::RulesBroken));
+    }
     if wrong_lengths(request.len(), response.len()) {
         return leaves(statuses, Answer::Refused(Refusal::WrongLength));
     }
@@ -151,13 +155,18 @@ fn respond<'a>(
     leaves(after, Answer::Sent(n))
 }
 
-// Answers one request: refusal 1 for the record, 17 for the lengths.
-pub fn serve(record: TrailerRecord, request: &[u8], functional: bool, response: &mut [u8]) -> Served
+// Answers one request. Of the record only the statuses can change.
+pub fn serve(
+    mut record: TrailerRecord,
+    request: &[u8],
+    functional: bool,
+    response: &mut [u8],
+) -> Served
     ensures { λ r. ⌜ (r .«record» ≡ outcomeOf «record» (now (request .entry)) functional (now (response .entry)) .after)
         × ((r .answer ≡ outcomeOf «record» (now (request .entry)) functional (now (response .entry)) .answer)
         × (now (response .exit) ≡ outcomeOf «record» (now (request .entry)) functional (now (response .entry)) .response)) ⌝ }
 {
-    if !sound(
+    let kept = sound(
         &record.codes,
         &record.statuses,
         record.count,
@@ -165,14 +174,10 @@ pub fn serve(record: TrailerRecord, request: &[u8], functional: bool, response: 
         &record.identifiers,
         &record.lengths,
         record.held,
-    ) {
-        return Served {
-            record,
-            answer: Answer::Refused(Refusal::RulesBroken),
-        };
-    }
+    );
     let before = record.statuses;
     let done = respond(
+        kept,
         &record.codes,
         before,
         record.count as usize,
@@ -187,10 +192,6 @@ pub fn serve(record: TrailerRecord, request: &[u8], functional: bool, response: 
     );
     let statuses = done.statuses;
     let answer = done.answer;
-    let mut after = record;
-    after.statuses = statuses;
-    Served {
-        record: after,
-        answer,
-    }
+    record.statuses = statuses;
+    Served { record, answer }
 }

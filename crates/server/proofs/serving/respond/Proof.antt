@@ -1,13 +1,13 @@
 -- `respond` meets its contract: each return stands at its rung, and what is written is what the rung says.
 use mathlib.Core.Path.{sym, ap, _∙_}
 use Prim.Native.Nat.{ℕ}
+use borrow.Author.Tests.{not-true, not-false}
 use borrow.Author.Needs.{needs}
 use Rattle.identifiers.specs.Bytes.{written}
-use Rattle.identifiers.proofs.LawsChoice.{taken}
 use Rattle.server.specs.Requests.{serviceOf, silentOn}
 use Rattle.server.specs.Server.{negativeOf, negativeBytes, positiveOf, withStatuses, Outcome, recordOf}
 use Rattle.server.proofs.LawsTrailer.{sound-has}
-use Rattle.server.proofs.LawsServer.{positive-form, right-lengths, outcome-17, outcome-silent, outcome-negative, outcome-positive}
+use Rattle.server.proofs.LawsServer.{positive-form, right-lengths, outcome-1, outcome-17, outcome-silent, outcome-negative, outcome-positive}
 use Rattle.server.specs.declared.serving.Answer.the-variants.{Sent}
 use native.Mathlib.Nat.{zero-add}
 use Rattle.server.proofs.serving.respond.Statement.{statement}
@@ -15,54 +15,69 @@ use Rattle.server.proofs.serving.respond.Tie as tie
 
 returns : tie.Need-returns
 returns c =
-    let entry = c .before .before .before .before .before in
-    let t = recordOf ((entry .args .codes) .now) (entry .args .t2) (entry .args .count) (entry .args .availability) ((entry .args .identifiers) .now) ((entry .args .lengths) .now) ((entry .args .bytes) .now) (entry .args .held) in
-    let law = outcome-17 t ((entry .args .request) .now) (entry .args .functional) ((entry .args .response) .now) (entry .pre) (sym (c .before .before .wrong-lengths .ensures) ∙ (c .before .if1 .taken)) in
+    let entry = c .before .before .before .before in
+    let t = recordOf ((entry .args .codes) .now) (entry .args .t3) (entry .args .count) (entry .args .availability) ((entry .args .identifiers) .now) ((entry .args .lengths) .now) ((entry .args .bytes) .now) (entry .args .held) in
+    let law = outcome-1 t ((entry .args .request) .now) (entry .args .functional) ((entry .args .response) .now) (sym (entry .pre) ∙ not-true _ (c .before .if1 .taken)) in
     ((c .leaves .ensures) .0 ∙ sym (ap (λ (o : Outcome). o .after .statuses) law), ((c .leaves .ensures) .1 ∙ sym (ap (λ (o : Outcome). o .answer) law), sym (ap (λ (o : Outcome). o .response) law)))
+
+returns-2 : tie.Need-returns-2
+returns-2 c =
+    let at-if1 = c .before .before .before in
+    let entry = at-if1 .before .before .before in
+    let kept = sym (entry .pre) ∙ not-false _ (at-if1 .if1 .left) in
+    let t = recordOf ((entry .args .codes) .now) (entry .args .t3) (entry .args .count) (entry .args .availability) ((entry .args .identifiers) .now) ((entry .args .lengths) .now) ((entry .args .bytes) .now) (entry .args .held) in
+    let law = outcome-17 t ((entry .args .request) .now) (entry .args .functional) ((entry .args .response) .now) kept (sym (c .before .before .wrong-lengths .ensures) ∙ (c .before .if2 .taken)) in
+    ((c .leaves2 .ensures) .0 ∙ sym (ap (λ (o : Outcome). o .after .statuses) law), ((c .leaves2 .ensures) .1 ∙ sym (ap (λ (o : Outcome). o .answer) law), sym (ap (λ (o : Outcome). o .response) law)))
 
 negative-requires : tie.Need-negative-requires
 negative-requires c κs =
-    let entry = c .before .before .before .before .before in
-    let s = sound-has _ (entry .pre) in
-    let l = right-lengths _ _ (sym (c .before .before .wrong-lengths .ensures) ∙ (c .before .if1 .left)) in
+    let at-if1 = c .before .before .before in
+    let entry = at-if1 .before .before .before in
+    let kept = sym (entry .pre) ∙ not-false _ (at-if1 .if1 .left) in
+    let s = sound-has _ kept in
+    let l = right-lengths _ _ (sym (c .before .before .wrong-lengths .ensures) ∙ (c .before .if2 .left)) in
     (s .count, (s .held, (l .0, l .1 .0)))
 
-returns-2 : tie.Need-returns-2
+returns-3 : tie.Need-returns-3
 unfolding negativeOf
-returns-2 c =
+returns-3 c =
     let at-negative = c .before .before .before in
-    let at-if1 = at-negative .before .before in
-    let at-wrong-lengths = at-if1 .before in
-    let entry = at-wrong-lengths .before .before .before in
-    let t = recordOf ((entry .args .codes) .now) (entry .args .t2) (entry .args .count) (entry .args .availability) ((entry .args .identifiers) .now) ((entry .args .lengths) .now) ((entry .args .bytes) .now) (entry .args .held) in
-    let law = outcome-silent t ((entry .args .request) .now) (entry .args .functional) ((entry .args .response) .now) (entry .pre) (sym (at-wrong-lengths .wrong-lengths .ensures) ∙ (at-if1 .if1 .left)) (ap (silentOn ((entry .args .request) .now) (entry .args .functional)) (sym (at-negative .negative .ensures)) ∙ sym (c .before .before .silent .ensures) ∙ (c .before .if2 .taken)) in
-    ((c .leaves2 .ensures) .0 ∙ sym (ap (λ (o : Outcome). o .after .statuses) law), ((c .leaves2 .ensures) .1 ∙ sym (ap (λ (o : Outcome). o .answer) law), sym (ap (λ (o : Outcome). o .response) law)))
+    let at-if2 = at-negative .before .before in
+    let at-wrong-lengths = at-if2 .before in
+    let at-if1 = at-wrong-lengths .before in
+    let entry = at-if1 .before .before .before in
+    let kept = sym (entry .pre) ∙ not-false _ (at-if1 .if1 .left) in
+    let t = recordOf ((entry .args .codes) .now) (entry .args .t3) (entry .args .count) (entry .args .availability) ((entry .args .identifiers) .now) ((entry .args .lengths) .now) ((entry .args .bytes) .now) (entry .args .held) in
+    let law = outcome-silent t ((entry .args .request) .now) (entry .args .functional) ((entry .args .response) .now) kept (sym (at-wrong-lengths .wrong-lengths .ensures) ∙ (at-if2 .if2 .left)) (ap (silentOn ((entry .args .request) .now) (entry .args .functional)) (sym (at-negative .negative .ensures)) ∙ sym (c .before .before .silent .ensures) ∙ (c .before .if3 .taken)) in
+    ((c .leaves3 .ensures) .0 ∙ sym (ap (λ (o : Outcome). o .after .statuses) law), ((c .leaves3 .ensures) .1 ∙ sym (ap (λ (o : Outcome). o .answer) law), sym (ap (λ (o : Outcome). o .response) law)))
 
 put-negative-requires : tie.Need-put-negative-requires
 put-negative-requires c κs =
-    let at-if1 = c .before .before .before .before .before .before .before in
-    let at-wrong-lengths = at-if1 .before in
-    right-lengths _ _ (sym (at-wrong-lengths .wrong-lengths .ensures) ∙ (at-if1 .if1 .left)) .1 .1
+    let at-if2 = c .before .before .before .before .before .before .before in
+    let at-wrong-lengths = at-if2 .before in
+    right-lengths _ _ (sym (at-wrong-lengths .wrong-lengths .ensures) ∙ (at-if2 .if2 .left)) .1 .1
 
-returns-3 : tie.Need-returns-3
+returns-4 : tie.Need-returns-4
 unfolding negativeOf negativeBytes
-returns-3 c =
+returns-4 c =
     let at-put-negative = c .before .before .before in
     let at-service = at-put-negative .before in
-    let at-if3 = at-service .before .before in
-    let at-if2 = at-if3 .before in
-    let at-silent = at-if2 .before in
+    let at-if4 = at-service .before .before in
+    let at-if3 = at-if4 .before in
+    let at-silent = at-if3 .before in
     let at-negative = at-silent .before in
-    let at-if1 = at-negative .before .before in
-    let at-wrong-lengths = at-if1 .before in
-    let entry = at-wrong-lengths .before .before .before in
-    let t = recordOf ((entry .args .codes) .now) (entry .args .t2) (entry .args .count) (entry .args .availability) ((entry .args .identifiers) .now) ((entry .args .lengths) .now) ((entry .args .bytes) .now) (entry .args .held) in
-    let law = outcome-negative t ((entry .args .request) .now) (entry .args .functional) ((entry .args .response) .now) (entry .pre) (sym (at-wrong-lengths .wrong-lengths .ensures) ∙ (at-if1 .if1 .left)) (ap (silentOn ((entry .args .request) .now) (entry .args .functional)) (sym (at-negative .negative .ensures)) ∙ sym (at-silent .silent .ensures) ∙ (at-if2 .if2 .left)) (λ q. (at-if3 .if3 .taken) ((at-negative .negative .ensures) ∙ q)) in
+    let at-if2 = at-negative .before .before in
+    let at-wrong-lengths = at-if2 .before in
+    let at-if1 = at-wrong-lengths .before in
+    let entry = at-if1 .before .before .before in
+    let kept = sym (entry .pre) ∙ not-false _ (at-if1 .if1 .left) in
+    let t = recordOf ((entry .args .codes) .now) (entry .args .t3) (entry .args .count) (entry .args .availability) ((entry .args .identifiers) .now) ((entry .args .lengths) .now) ((entry .args .bytes) .now) (entry .args .held) in
+    let law = outcome-negative t ((entry .args .request) .now) (entry .args .functional) ((entry .args .response) .now) kept (sym (at-wrong-lengths .wrong-lengths .ensures) ∙ (at-if2 .if2 .left)) (ap (silentOn ((entry .args .request) .now) (entry .args .functional)) (sym (at-negative .negative .ensures)) ∙ sym (at-silent .silent .ensures) ∙ (at-if3 .if3 .left)) (λ q. (at-if4 .if4 .taken) ((at-negative .negative .ensures) ∙ q)) in
     let put = (at-put-negative .put-negative .ensures) in
     let bytes = ap (λ (s : ℕ). negativeBytes s (at-negative .negative .result)) (at-service .service .ensures) ∙ ap (negativeBytes (serviceOf ((entry .args .request) .now))) (at-negative .negative .ensures) in (
-      (c .leaves3 .ensures) .0 ∙ sym (ap (λ (o : Outcome). o .after .statuses) law),
+      (c .leaves4 .ensures) .0 ∙ sym (ap (λ (o : Outcome). o .after .statuses) law),
       (
-        (c .leaves3 .ensures) .1 ∙ ap Sent (put .ends) ∙ sym (ap (λ (o : Outcome). o .answer) law),
+        (c .leaves4 .ensures) .1 ∙ ap Sent (put .ends) ∙ sym (ap (λ (o : Outcome). o .answer) law),
         put .holds ∙ ap (written ((entry .args .response) .now) 0) bytes ∙ sym (ap (λ (o : Outcome). o .response) law),
       ),
     )
@@ -70,37 +85,43 @@ returns-3 c =
 put-positive-requires : tie.Need-put-positive-requires
 put-positive-requires c κs =
     let at-negative = c .before .before .before .before .before in
-    let at-if1 = at-negative .before .before in
-    let at-wrong-lengths = at-if1 .before in
-    let entry = at-wrong-lengths .before .before .before in
-    let s = sound-has _ (entry .pre) in
-    let l = right-lengths _ _ (sym (at-wrong-lengths .wrong-lengths .ensures) ∙ (at-if1 .if1 .left)) in
-    (s .count, (s .held, (s .lengths, (l .0, (l .1 .1, (sym (at-negative .negative .ensures) ∙ (c .before .before .if3 .left)))))))
+    let at-if2 = at-negative .before .before in
+    let at-wrong-lengths = at-if2 .before in
+    let at-if1 = at-wrong-lengths .before in
+    let entry = at-if1 .before .before .before in
+    let kept = sym (entry .pre) ∙ not-false _ (at-if1 .if1 .left) in
+    let s = sound-has _ kept in
+    let l = right-lengths _ _ (sym (at-wrong-lengths .wrong-lengths .ensures) ∙ (at-if2 .if2 .left)) in
+    (s .count, (s .held, (s .lengths, (l .0, (l .1 .1, (sym (at-negative .negative .ensures) ∙ (c .before .before .if4 .left)))))))
 
 statuses-after-requires : tie.Need-statuses-after-requires
 statuses-after-requires c κs =
-    let at-if3 = c .before .before .before .before .before in
-    let at-negative = at-if3 .before .before .before in
-    let entry = at-negative .before .before .before .before .before .before in
-    (sound-has _ (entry .pre) .count, positive-form _ _ _ _ _ _ _ _ (sym (at-negative .negative .ensures) ∙ (at-if3 .if3 .left)) .0)
+    let at-if4 = c .before .before .before .before .before in
+    let at-negative = at-if4 .before .before .before in
+    let at-if1 = at-negative .before .before .before .before in
+    let entry = at-if1 .before .before .before in
+    let kept = sym (entry .pre) ∙ not-false _ (at-if1 .if1 .left) in
+    (sound-has _ kept .count, positive-form _ _ _ _ _ _ _ _ (sym (at-negative .negative .ensures) ∙ (at-if4 .if4 .left)) .0)
 
-returns-4 : tie.Need-returns-4
+returns-5 : tie.Need-returns-5
 unfolding negativeOf positiveOf withStatuses
-returns-4 c =
+returns-5 c =
     let at-put-positive = c .before .before .before .before in
-    let at-if3 = at-put-positive .before .before .before in
-    let at-if2 = at-if3 .before in
-    let at-silent = at-if2 .before in
+    let at-if4 = at-put-positive .before .before .before in
+    let at-if3 = at-if4 .before in
+    let at-silent = at-if3 .before in
     let at-negative = at-silent .before in
-    let at-if1 = at-negative .before .before in
-    let at-wrong-lengths = at-if1 .before in
-    let entry = at-wrong-lengths .before .before .before in
-    let t = recordOf ((entry .args .codes) .now) (entry .args .t2) (entry .args .count) (entry .args .availability) ((entry .args .identifiers) .now) ((entry .args .lengths) .now) ((entry .args .bytes) .now) (entry .args .held) in
-    let law = outcome-positive t ((entry .args .request) .now) (entry .args .functional) ((entry .args .response) .now) (entry .pre) (sym (at-wrong-lengths .wrong-lengths .ensures) ∙ (at-if1 .if1 .left)) (ap (silentOn ((entry .args .request) .now) (entry .args .functional)) (sym (at-negative .negative .ensures)) ∙ sym (at-silent .silent .ensures) ∙ (at-if2 .if2 .left)) (sym (at-negative .negative .ensures) ∙ (at-if3 .if3 .left)) in
+    let at-if2 = at-negative .before .before in
+    let at-wrong-lengths = at-if2 .before in
+    let at-if1 = at-wrong-lengths .before in
+    let entry = at-if1 .before .before .before in
+    let kept = sym (entry .pre) ∙ not-false _ (at-if1 .if1 .left) in
+    let t = recordOf ((entry .args .codes) .now) (entry .args .t3) (entry .args .count) (entry .args .availability) ((entry .args .identifiers) .now) ((entry .args .lengths) .now) ((entry .args .bytes) .now) (entry .args .held) in
+    let law = outcome-positive t ((entry .args .request) .now) (entry .args .functional) ((entry .args .response) .now) kept (sym (at-wrong-lengths .wrong-lengths .ensures) ∙ (at-if2 .if2 .left)) (ap (silentOn ((entry .args .request) .now) (entry .args .functional)) (sym (at-negative .negative .ensures)) ∙ sym (at-silent .silent .ensures) ∙ (at-if3 .if3 .left)) (sym (at-negative .negative .ensures) ∙ (at-if4 .if4 .left)) in
     let put = (at-put-positive .put-positive .ensures) in (
-      (c .leaves4 .ensures) .0 ∙ (c .before .statuses-after .ensures) ∙ sym (ap (λ (o : Outcome). o .after .statuses) law),
+      (c .leaves5 .ensures) .0 ∙ (c .before .statuses-after .ensures) ∙ sym (ap (λ (o : Outcome). o .after .statuses) law),
       (
-        (c .leaves4 .ensures) .1 ∙ ap Sent (put .ends ∙ zero-add _) ∙ sym (ap (λ (o : Outcome). o .answer) law),
+        (c .leaves5 .ensures) .1 ∙ ap Sent (put .ends ∙ zero-add _) ∙ sym (ap (λ (o : Outcome). o .answer) law),
         put .holds ∙ sym (ap (λ (o : Outcome). o .response) law),
       ),
     )
@@ -108,19 +129,21 @@ returns-4 c =
 pub respond-spec : {M : Type 1} → statement M
 respond-spec = tie.close (tie.spec
     (λ c κs. search needs)
-    (λ c κs. search needs)
     returns
-    negative-requires
     (λ c κs. search needs)
     (λ c κs. search needs)
     returns-2
+    negative-requires
+    (λ c κs. search needs)
+    (λ c κs. search needs)
+    returns-3
     (λ c κs. search needs)
     put-negative-requires
     (λ c κs. search needs)
     (λ c. search needs)
-    returns-3
+    returns-4
     put-positive-requires
     statuses-after-requires
     (λ c κs. search needs)
     (λ c. search needs)
-    returns-4)
+    returns-5)
