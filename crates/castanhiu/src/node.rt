@@ -7,7 +7,7 @@ use receiver::Changed;
 use receiver::Node;
 use receiver::OutcomeTold;
 use receiver::fresh;
-use receiver::receive;
+use receiver::move_reception;
 use receiver::start;
 use receiver::take_address;
 
@@ -57,9 +57,10 @@ pub extern "C" fn castanhiu_take_address(node: Node, source: u8) -> NodeChanged
     changed_told(take_address(node, source))
 }
 
+// As `receiver::receive`, with the outcome told before the reception is stored: the compiled code then goes through its cases once.
 #[no_mangle]
 pub extern "C" fn castanhiu_receive(
-    node: Node,
+    mut node: Node,
     buffer: &mut [u8],
     identifier: u32,
     data: &[u8],
@@ -68,11 +69,14 @@ pub extern "C" fn castanhiu_receive(
     ensures { λ r. ⌜ (r ≡ receivedTold (receivedOf node (now (buffer .entry)) identifier (now («data» .entry)) stamp))
         × (now (buffer .exit) ≡ bufferAfter node (now (buffer .entry)) identifier (now («data» .entry)) stamp) ⌝ }
 {
-    let received = receive(node, buffer, identifier, data, stamp);
-    let next = received.node;
-    let outcome = received.outcome;
+    let moved = move_reception(node, buffer, identifier, data, stamp);
+    let p = moved.place;
+    let reception = moved.reception;
+    let outcome = moved.outcome;
+    let told = outcome.told();
+    node.receptions[p] = reception;
     FrameReceived {
-        node: next,
-        outcome: outcome.told(),
+        node,
+        outcome: told,
     }
 }

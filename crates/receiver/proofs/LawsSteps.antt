@@ -1,6 +1,6 @@
 -- One law for each outcome of a step, and what every step promises: it reads bytes that the frame has, writes within its vehicle's part of the buffer, keeps the rules.
 use mathlib.Core.Path.{_≡_, refl, sym, ap, _∙_}
-use mathlib.Core.Bool.{Bool, true}
+use mathlib.Core.Bool.{Bool, true, false}
 use mathlib.Core.List.{List, [], _∷_}
 use mathlib.Core.Logic.{_≢_}
 use Prim.Native.Nat.{ℕ, zero, suc, _+_, _-_, _*_, _%_, _≤_, _<_, min}
@@ -9,6 +9,7 @@ use native.Mathlib.Omega.{arith}
 use borrow.Author.Tests.{ltb-true, ltb-false, eqb-false, leb-true, lt-ltb, le-ltb, eq-eqb, ne-eqb, le-leb}
 use lib.Dec.{eqb}
 use lib.ListN.{length, getD, set}
+use lib.Seq.{set-getD}
 use Rattle.identifiers.specs.Choice.{pick, both}
 use Rattle.identifiers.specs.Bytes.{written}
 use Rattle.identifiers.specs.Refusals.{refusal}
@@ -19,18 +20,21 @@ use Rattle.readings.specs.Positions.{placeOf, trailerAt}
 use Rattle.readings.proofs.LawsPositions.{place-below}
 use Rattle.readings.specs.declared.position.Position.{Position}
 use Rattle.readings.specs.declared.position.Position.the-variants.{Zero}
-use Rattle.readings.specs.declared.position.Vehicle.the-variants.{At}
+use Rattle.readings.specs.declared.position.Vehicle.{Vehicle}
+use Rattle.readings.specs.declared.position.Vehicle.the-variants.{At, NoVehicle}
 use Rattle.receiver.specs.declared.reception.Reception.{Reception}
 use Rattle.receiver.specs.declared.node.Node.{Node}
 use Rattle.receiver.specs.declared.frame.Judged.{Judged}
 use Rattle.receiver.specs.declared.frame.Judged.the-variants as judged
 use Rattle.receiver.specs.declared.step.Step.{Step}
+use Rattle.receiver.specs.declared.step.Moved.{Moved}
+use Rattle.receiver.specs.declared.step.Received.{Received}
 use Rattle.receiver.specs.declared.step.Outcome.{Outcome}
 use Rattle.receiver.specs.declared.step.Outcome.the-variants.{Refused, Taken, Train}
 use Rattle.receiver.specs.Receptions.{closed, openWith, soundReception}
 use Rattle.receiver.specs.Nodes.{receptionAt, withReception, soundNode}
 use Rattle.receiver.specs.Frames.{judgedOf}
-use Rattle.receiver.specs.Steps.{gapOf, regionAt, kept, shut, opened, doneOf, leftOf, takenStep, followed, stepOf, judgedPlace, stepBy, ready, receivedBy, receivedAt, receivedOf, writtenBy, bufferAt, bufferAfter}
+use Rattle.receiver.specs.Steps.{gapOf, regionAt, kept, shut, opened, doneOf, leftOf, takenStep, followed, stepOf, judgedPlace, stepBy, ready, receivedBy, receivedAt, receivedOf, unmovedAs, movedBy, movedAt, movedOf, writtenBy, bufferAt, bufferAfter}
 use Rattle.receiver.proofs.LawsFrames.{Fair, fair}
 
 -- ---- a consecutive frame, one law a rung
@@ -179,6 +183,9 @@ pub kept-writes : (buffer : List ℕ) (r : Reception) (o : Outcome) (bytes : Lis
 unfolding writtenBy kept written
 kept-writes buffer r o bytes = refl
 
+pub unwritten : (buffer : List ℕ) (r : Reception) (o : Outcome) (bytes : List ℕ) {s : Step} → s ≡ kept r o → buffer ≡ writtenBy buffer s bytes
+unwritten buffer r o bytes e = rw e (sym (kept-writes buffer r o bytes))
+
 -- ---- the step of a node that keeps its rules, by a frame that checks 2 to 10 judge
 module _ (n : Node) (own : Position) (identifier : ℕ) (bytes : List ℕ) (stamp : ℕ) (s : soundNode n ≡ true) where
   abbrev frame : Judged
@@ -206,3 +213,42 @@ module _ (n : Node) (buffer : List ℕ) (own : Position) (s : soundNode n ≡ tr
   pub buffer-is : bufferAfter n buffer identifier bytes stamp ≡ writtenBy buffer (stepBy n (judgedOf own (n .unit) identifier bytes) bytes stamp) bytes
   unfolding bufferAfter bufferAt
   buffer-is = pick-true _ _ (is-ready n buffer s l) ∙ ap (bufferAt n buffer identifier bytes stamp) at
+
+-- ---- the node with the one reception stored that a frame moves is the node that is received
+module _ (n : Node) where
+  abbrev pub storedIn : Moved → Received
+  storedIn m = record { node = withReception n (m .place) (m .reception); outcome = m .outcome }
+
+  unmoved-stays : storedIn (unmovedAs n) ≡ record { node = n; outcome = Refused (refusal 1) }
+  unfolding unmovedAs withReception receptionAt
+  unmoved-stays = rw (set-getD (n .receptions) 0 closed)
+
+  stored-pick : (t : Bool) (x y : Moved) (u v : Received) → storedIn x ≡ u → storedIn y ≡ v → storedIn (pick t x y) ≡ pick t u v
+  unfolding pick
+  stored-pick true x y u v a b = a
+  stored-pick false x y u v a b = b
+
+  place-pick : (t : Bool) (x y : Moved) → x .place < 6 → y .place < 6 → pick t x y .place < 6
+  unfolding pick
+  place-pick true x y a b = a
+  place-pick false x y a b = b
+
+  module _ (identifier : ℕ) (bytes : List ℕ) (stamp : ℕ) where
+    stored-at : (v : Vehicle) → storedIn (movedAt n identifier bytes stamp v) ≡ receivedAt n identifier bytes stamp v
+    unfolding movedAt movedBy receivedAt receivedBy
+    stored-at (At own) = refl
+    stored-at NoVehicle = unmoved-stays
+
+    place-at : (v : Vehicle) → movedAt n identifier bytes stamp v .place < 6
+    unfolding movedAt movedBy unmovedAs
+    place-at (At own) = place-judged (judgedOf own (n .unit) identifier bytes)
+    place-at NoVehicle = omega arith
+
+    module _ (buffer : List ℕ) {m : Moved} (is : m ≡ movedOf n buffer identifier bytes stamp) where
+      pub stored-moved : storedIn m ≡ receivedOf n buffer identifier bytes stamp
+      unfolding movedOf receivedOf
+      stored-moved = rw is (stored-pick (ready n buffer) _ _ _ _ (stored-at (trailerAt (n .own))) unmoved-stays)
+
+      pub place-moved : m .place < 6
+      unfolding movedOf unmovedAs
+      place-moved = rw is (place-pick (ready n buffer) _ (unmovedAs n) (place-at (trailerAt (n .own))) (omega arith))

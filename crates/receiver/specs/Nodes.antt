@@ -1,6 +1,6 @@
 -- The node's state and its rules, how it starts, and how it takes an address (document 01, "Identifier, vehicle, route", "Frames and trains").
 use mathlib.Core.Bool.{Bool}
-use Prim.Native.Nat.{ℕ}
+use Prim.Native.Nat.{ℕ, _+_}
 use lib.Dec.{leb, eqb}
 use lib.ListN.{getD, set, replicate}
 use Rattle.identifiers.specs.Choice.{pick, both}
@@ -29,6 +29,13 @@ withReception n p r = record { own = n .own; unit = n .unit; receptions = set (n
 -- 1 "lent state breaks its rules, own position not 1..5"
 unfoldable pub soundNode : Node → Bool
 soundNode n = both (leb 1 (n .own)) (both (leb (n .own) 5) (allBelow (λ p. soundReception (receptionAt n p)) 6))
+
+-- the same in two halves: the own position and positions 0 to 2, then positions 3 to 5
+unfoldable pub soundInFront : Node → Bool
+soundInFront n = both (leb 1 (n .own)) (both (leb (n .own) 5) (allBelow (λ p. soundReception (receptionAt n p)) 3))
+
+unfoldable pub soundBehind : Node → Bool
+soundBehind n = allBelow (λ p. soundReception (receptionAt n (3 + p))) 3
 
 -- "A node is fresh, at any position 1 to 5 and with any unit, when all receptions are closed"
 unfoldable pub freshNode : ℕ → ℕ → Node

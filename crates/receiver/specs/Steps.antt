@@ -23,6 +23,7 @@ use Rattle.receiver.specs.declared.step.Control.the-variants.{Continue, 
 use Rattle.receiver.specs.declared.step.Due.{Due}
 use Rattle.receiver.specs.declared.step.Due.the-variants.{Nothing, Send}
 use Rattle.receiver.specs.declared.step.Received.{Received}
+use Rattle.receiver.specs.declared.step.Moved.{Moved}
 use Rattle.receiver.specs.Receptions.{closed, openWith}
 use Rattle.receiver.specs.Nodes.{receptionAt, withReception, soundNode}
 use Rattle.receiver.specs.Frames.{judgedOf}
@@ -105,6 +106,23 @@ receivedAt n identifier bytes stamp NoVehicle = record { node = n; outcome = Ref
 unfoldable pub receivedOf : Node → List ℕ → ℕ → List ℕ → ℕ → Received
 receivedOf n buffer identifier bytes stamp =
     pick (ready n buffer) (receivedAt n identifier bytes stamp (trailerAt (n .own))) (record { node = n; outcome = Refused (refusal 1) })
+
+-- the one reception that a frame moves, its place, and the outcome; 1 moves none, and the first stands as it is
+unfoldable pub unmovedAs : Node → Moved
+unmovedAs n = record { place = 0; reception = receptionAt n 0; outcome = Refused (refusal 1) }
+
+unfoldable pub movedBy : Node → Judged → List ℕ → ℕ → Moved
+movedBy n j bytes stamp =
+    let s = stepBy n j bytes stamp in
+    record { place = judgedPlace j; reception = s .reception; outcome = s .outcome }
+
+unfoldable pub movedAt : Node → ℕ → List ℕ → ℕ → Vehicle → Moved
+movedAt n identifier bytes stamp (At own) = movedBy n (judgedOf own (n .unit) identifier bytes) bytes stamp
+movedAt n identifier bytes stamp NoVehicle = unmovedAs n
+
+unfoldable pub movedOf : Node → List ℕ → ℕ → List ℕ → ℕ → Moved
+movedOf n buffer identifier bytes stamp =
+    pick (ready n buffer) (movedAt n identifier bytes stamp (trailerAt (n .own))) (unmovedAs n)
 
 -- "An accepted frame of a train writes its message bytes there, and nothing else is written"
 unfoldable pub writtenBy : List ℕ → Step → List ℕ → List ℕ

@@ -1,6 +1,6 @@
 // The node's state, by value: own position, unit, and a reception for each of positions 0 to 5.
 ghost use mathlib.Core.Path.{_≡_};
-ghost use Rattle.receiver.specs.Nodes.{soundNode, freshNode, startOf, unchanged, freshOf, takenBy, answerNumber};
+ghost use Rattle.receiver.specs.Nodes.{soundInFront, soundBehind, soundNode, freshNode, startOf, unchanged, freshOf, takenBy, answerNumber};
 use crate::reception::Reception;
 use identifiers::Refusal;
 use readings::AddressTaken;
@@ -37,9 +37,9 @@ impl Answer {
     }
 }
 
-// The state keeps its rules.
-pub fn is_sound(node: Node) -> bool
-    ensures { λ r. ⌜ r ≡ soundNode node ⌝ }
+// The state keeps its rules, in two halves, each small enough to be compiled into its caller: the own position and the receptions of positions 0 to 2.
+pub fn is_sound_in_front(node: Node) -> bool
+    ensures { λ r. ⌜ r ≡ soundInFront node ⌝ }
 {
     if node.own == 0 {
         return false;
@@ -53,9 +53,13 @@ pub fn is_sound(node: Node) -> bool
     if !node.receptions[1].is_sound() {
         return false;
     }
-    if !node.receptions[2].is_sound() {
-        return false;
-    }
+    node.receptions[2].is_sound()
+}
+
+// The receptions of positions 3 to 5.
+pub fn is_sound_behind(node: Node) -> bool
+    ensures { λ r. ⌜ r ≡ soundBehind node ⌝ }
+{
     if !node.receptions[3].is_sound() {
         return false;
     }
@@ -63,6 +67,15 @@ pub fn is_sound(node: Node) -> bool
         return false;
     }
     node.receptions[5].is_sound()
+}
+
+fn is_sound(node: Node) -> bool
+    ensures { λ r. ⌜ r ≡ soundNode node ⌝ }
+{
+    if !is_sound_in_front(node) {
+        return false;
+    }
+    is_sound_behind(node)
 }
 
 // All receptions closed.

@@ -1,16 +1,20 @@
 // One frame received: judged by itself, then by its vehicle's reception; the bytes written; the next node.
 ghost use mathlib.Core.Path.{_≡_};
 ghost use mathlib.Core.Bool.{true};
-ghost use Prim.Native.Nat.{_+_, _*_, _≤_, _<_, min};
+ghost use Prim.Native.Nat.{ℕ, _+_, _*_, _≤_, _<_, min};
 ghost use lib.ListN.{length};
 ghost use Rattle.readings.specs.Positions.{placeOf};
+ghost use Rattle.readings.specs.declared.position.Position.{Position};
+ghost use Rattle.receiver.specs.declared.frame.Judged.the-variants.{First};
 ghost use Rattle.receiver.specs.Receptions.{soundReception};
-ghost use Rattle.receiver.specs.Steps.{gapOf, kept, shut, opened, takenStep, followed, stepOf, receivedOf, bufferAfter, dueOf, nothingTold, outcomeTold, judgedPlace};
+ghost use Rattle.receiver.specs.Steps.{gapOf, kept, shut, opened, leftOf, takenStep, followed, stepOf, judgedPlace, unmovedAs, movedOf, receivedOf, writtenBy, bufferAfter, dueOf, nothingTold, outcomeTold};
 use crate::bytes::store;
+use crate::bytes::store_six;
 use crate::frame::Judged;
 use crate::frame::judge;
 use crate::node::Node;
-use crate::node::is_sound;
+use crate::node::is_sound_behind;
+use crate::node::is_sound_in_front;
 use crate::reception::Reception;
 use identifiers::Refusal;
 use readings::Position;
@@ -76,6 +80,13 @@ pub struct Step {
     pub outcome: Outcome,
 }
 
+// The reception that a frame moves: its place, the reception afterwards, and the frame's outcome.
+pub struct Moved {
+    pub place: usize,
+    pub reception: Reception,
+    pub outcome: Outcome,
+}
+
 // Milliseconds from the earlier stamp to the later; stamps run round.
 fn gap(later: u32, earlier: u32) -> u32
     ensures { λ r. ⌜ r ≡ gapOf later earlier ⌝ }
@@ -116,16 +127,19 @@ fn place(position: Position) -> usize
 }
 
 // A first frame opens the reception anew.
-fn open_anew(from: Position, length: u8, stamp: u32) -> Step
-    ensures { λ r. ⌜ r ≡ opened from length stamp ⌝ }
+fn open_anew(buffer: &mut [u8], data: &[u8], from: Position, total: u8, stamp: u32) -> Step
+    requires { ⌜ (length (now buffer) ≡ 1536) × (8 ≤ length (now «data»)) ⌝ }
+    ensures { λ r. ⌜ (r ≡ opened from total stamp) × (now (buffer .exit) ≡ writtenBy (now (buffer .entry)) r (now («data» .entry))) ⌝ }
 {
+    let at = 256 * place(from);
+    store(buffer, at, data, 3, 5);
     Step {
         reception: Reception {
-            length,
+            length: total,
             taken: 0,
             last: stamp,
         },
-        at: 256 * place(from),
+        at,
         start: 3,
         count: 5,
         outcome: Outcome::Opened { from },
@@ -133,14 +147,15 @@ fn open_anew(from: Position, length: u8, stamp: u32) -> Step
 }
 
 // A consecutive frame in order and in time is taken; the last one ends the train.
-fn take(reception: Reception, from: Position, stamp: u32) -> Step
-    requires { ⌜ (soundReception reception ≡ true) × (7 ≤ reception .length) ⌝ }
-    ensures { λ r. ⌜ r ≡ takenStep reception from stamp ⌝ }
+fn take(buffer: &mut [u8], data: &[u8], reception: Reception, from: Position, stamp: u32) -> Step
+    requires { ⌜ (soundReception reception ≡ true) × (7 ≤ reception .length) × (length (now buffer) ≡ 1536) × (2 + min 6 (leftOf reception) ≤ length (now «data»)) ⌝ }
+    ensures { λ r. ⌜ (r ≡ takenStep reception from stamp) × (now (buffer .exit) ≡ writtenBy (now (buffer .entry)) r (now («data» .entry))) ⌝ }
 {
     let length = reception.length as usize;
     let done = 5 + 6 * (reception.taken as usize);
     let at = 256 * place(from) + done;
     if 6 < length - done {
+        store_six(buffer, at, data, 2);
         return Step {
             reception: Reception {
                 length: reception.length,
@@ -153,6 +168,7 @@ fn take(reception: Reception, from: Position, stamp: u32) -> Step
             outcome: Outcome::Taken { from },
         };
     }
+    store(buffer, at, data, 2, length - done);
     Step {
         reception: Reception::CLOSED,
         at,
@@ -174,17 +190,25 @@ fn at_most_six(left: usize) -> usize
     6
 }
 
-// A consecutive frame of `count` data bytes: 12, then 9, 13 and 14.
-fn follow(reception: Reception, from: Position, number: u8, count: usize, stamp: u32) -> Step
-    requires { ⌜ soundReception reception ≡ true ⌝ }
-    ensures { λ r. ⌜ r ≡ followed reception from number count stamp ⌝ }
+// A consecutive frame: 12, then 9, 13 and 14.
+fn follow(
+    buffer: &mut [u8],
+    data: &[u8],
+    reception: Reception,
+    from: Position,
+    number: u8,
+    stamp: u32,
+) -> Step
+    requires { ⌜ (soundReception reception ≡ true) × (length (now buffer) ≡ 1536) ⌝ }
+    ensures { λ r. ⌜ (r ≡ followed reception from number (length (now («data» .entry))) stamp)
+        × (now (buffer .exit) ≡ writtenBy (now (buffer .entry)) r (now («data» .entry))) ⌝ }
 {
     let length = reception.length as usize;
     let taken = reception.taken as usize;
     if length == 0 {
         return keep(reception, Outcome::Refused(Refusal::NothingOpen));
     }
-    if count < 2 + at_most_six(length - (5 + 6 * taken)) {
+    if data.len() < 2 + at_most_six(length - (5 + 6 * taken)) {
         return keep(reception, Outcome::Refused(Refusal::Malformed));
     }
     if number as usize != (taken + 1) % 16 {
@@ -193,13 +217,14 @@ fn follow(reception: Reception, from: Position, number: u8, count: usize, stamp:
     if 150 < gap(stamp, reception.last) {
         return close(Outcome::Refused(Refusal::Late));
     }
-    take(reception, from, stamp)
+    take(buffer, data, reception, from, stamp)
 }
 
-// What a judged frame does to its vehicle's reception.
-fn decide(reception: Reception, judged: Judged, count: usize, stamp: u32) -> Step
-    requires { ⌜ soundReception reception ≡ true ⌝ }
-    ensures { λ r. ⌜ (r ≡ stepOf reception judged count stamp) × (reception .length ≤ 255) ⌝ }
+// What a judged frame does to its vehicle's reception and to the buffer; a first frame has 8 data bytes.
+fn decide(buffer: &mut [u8], data: &[u8], reception: Reception, judged: Judged, stamp: u32) -> Step
+    requires { ⌜ (soundReception reception ≡ true) × (length (now buffer) ≡ 1536) × ((p : Position) (L : ℕ) → judged ≡ First p L → 8 ≤ length (now «data»)) ⌝ }
+    ensures { λ r. ⌜ (r ≡ stepOf reception judged (length (now («data» .entry))) stamp)
+        × (now (buffer .exit) ≡ writtenBy (now (buffer .entry)) r (now («data» .entry))) ⌝ }
 {
     match judged {
         Judged::Refused(why) => keep(reception, Outcome::Refused(why)),
@@ -219,9 +244,11 @@ fn decide(reception: Reception, judged: Judged, count: usize, stamp: u32) -> Ste
                 close(outcome)
             }
         }
-        Judged::First { from, length } => open_anew(from, length, stamp),
+        Judged::First { from, length } => open_anew(buffer, data, from, length, stamp),
         Judged::OverLong { from } => close(Outcome::OverLong { from }),
-        Judged::Consecutive { from, number } => follow(reception, from, number, count, stamp),
+        Judged::Consecutive { from, number } => {
+            follow(buffer, data, reception, from, number, stamp)
+        }
     }
 }
 
@@ -242,41 +269,69 @@ fn place_of(judged: Judged) -> usize
     }
 }
 
-// A frame offered to the node: refusals 1 to 14, or what it does. The buffer has 1,536 bytes, 256 for each position.
-pub fn receive(node: Node, buffer: &mut [u8], identifier: u32, data: &[u8], stamp: u32) -> Received
-    ensures { λ r. ⌜ (r ≡ receivedOf node (now (buffer .entry)) identifier (now («data» .entry)) stamp)
+// Refusal 1 moves nothing.
+fn unmoved(node: Node) -> Moved
+    ensures { λ r. ⌜ r ≡ unmovedAs node ⌝ }
+{
+    Moved {
+        place: 0,
+        reception: node.receptions[0],
+        outcome: Outcome::Refused(Refusal::RulesBroken),
+    }
+}
+
+// A frame offered to the node: refusals 1 to 14, or the reception that it moves. The buffer has 1,536 bytes, 256 for each position.
+pub fn move_reception(
+    node: Node,
+    buffer: &mut [u8],
+    identifier: u32,
+    data: &[u8],
+    stamp: u32,
+) -> Moved
+    ensures { λ r. ⌜ (r ≡ movedOf node (now (buffer .entry)) identifier (now («data» .entry)) stamp)
         × (now (buffer .exit) ≡ bufferAfter node (now (buffer .entry)) identifier (now («data» .entry)) stamp) ⌝ }
 {
-    if !is_sound(node) {
-        return Received {
-            node,
-            outcome: Outcome::Refused(Refusal::RulesBroken),
-        };
+    if !is_sound_in_front(node) {
+        return unmoved(node);
+    }
+    if !is_sound_behind(node) {
+        return unmoved(node);
     }
     if buffer.len() != 1536 {
-        return Received {
-            node,
-            outcome: Outcome::Refused(Refusal::RulesBroken),
-        };
+        return unmoved(node);
     }
     let Vehicle::At(own) = Position::trailer(node.own) else {
-        return Received {
-            node,
-            outcome: Outcome::Refused(Refusal::RulesBroken),
-        };
+        return unmoved(node);
     };
     let judged = judge(own, node.unit, identifier, data);
     let p = place_of(judged);
-    let step = decide(node.receptions[p], judged, data.len(), stamp);
-    store(buffer, step.at, data, step.start, step.count);
+    let step = decide(buffer, data, node.receptions[p], judged, stamp);
     let reception = step.reception;
     let outcome = step.outcome;
-    let mut next = node;
-    next.receptions[p] = reception;
-    Received {
-        node: next,
+    Moved {
+        place: p,
+        reception,
         outcome,
     }
+}
+
+// The same, with that one reception stored in the node.
+pub fn receive(
+    mut node: Node,
+    buffer: &mut [u8],
+    identifier: u32,
+    data: &[u8],
+    stamp: u32,
+) -> Received
+    ensures { λ r. ⌜ (r ≡ receivedOf node (now (buffer .entry)) identifier (now («data» .entry)) stamp)
+        × (now (buffer .exit) ≡ bufferAfter node (now (buffer .entry)) identifier (now («data» .entry)) stamp) ⌝ }
+{
+    let moved = move_reception(node, buffer, identifier, data, stamp);
+    let p = moved.place;
+    let reception = moved.reception;
+    let outcome = moved.outcome;
+    node.receptions[p] = reception;
+    Received { node, outcome }
 }
 
 impl Outcome {

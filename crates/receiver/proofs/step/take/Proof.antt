@@ -4,28 +4,52 @@ use native.Mathlib.Omega.{arith}
 use borrow.Author.Needs.{needs}
 use borrow.Author.Tests.{lt-ltb, le-ltb}
 use Rattle.identifiers.proofs.LawsChoice.{taken, passed}
-use Rattle.receiver.specs.Steps.{regionAt, doneOf, leftOf, takenStep}
+use Rattle.receiver.specs.Steps.{regionAt, doneOf, leftOf, takenStep, writtenBy}
 use Rattle.receiver.proofs.LawsSteps.{open-facts}
 use Rattle.receiver.proofs.step.take.Statement.{statement}
 use Rattle.receiver.proofs.step.take.Tie as tie
 
 sub-if1 : tie.Need-sub-if1
 sub-if1 c =
-    let entry = c .before .before .before in
+    let entry = c .before .before .before .before .before in
     omega (arith, open-facts (entry .args .reception) (entry .pre .0) (λ z. omega arith) .1)
 
-returns : tie.Need-returns
-unfolding takenStep leftOf doneOf regionAt
-returns c = rw (c .before .before .place .ensures .0) (taken _ (lt-ltb _ _ (c .before .if1 .taken)) refl)
+store-six-requires : tie.Need-store-six-requires
+unfolding leftOf doneOf
+store-six-requires c κs =
+    let entry = c .before .before .before .before .before .before .before in
+    let o = open-facts (entry .args .reception) (entry .pre .0) (λ z. omega arith) in (omega (arith, (c .before .before .place .ensures)), omega arith)
 
-sub-t8 : tie.Need-sub-t8
-sub-t8 c =
-    let entry = c .before .before .before .before in
+returns : tie.Need-returns
+unfolding takenStep leftOf doneOf regionAt writtenBy
+returns c =
+    let at-store-six = c .before .before .before in
+    let at-if1 = at-store-six .before .before in
+    let at-place = at-if1 .before in
+    (rw (at-place .place .ensures .0) (taken _ (lt-ltb _ _ (at-if1 .if1 .taken)) refl), (at-store-six .store-six .ensures))
+
+sub-store : tie.Need-sub-store
+sub-store c =
+    let entry = c .before .before .before .before .before .before .before in
+    omega (arith, open-facts (entry .args .reception) (entry .pre .0) (λ z. omega arith) .1)
+
+store-requires : tie.Need-store-requires
+unfolding leftOf doneOf
+store-requires c κs =
+    let entry = c .before .before .before .before .before .before .before in
+    let o = open-facts (entry .args .reception) (entry .pre .0) (λ z. omega arith) in (omega (arith, (c .before .before .place .ensures)), omega arith)
+
+sub-t9 : tie.Need-sub-t9
+sub-t9 c =
+    let entry = c .before .before .before .before .before .before .before .before .before .before in
     omega (arith, open-facts (entry .args .reception) (entry .pre .0) (λ z. omega arith) .1)
 
 returns-2 : tie.Need-returns-2
-unfolding takenStep leftOf doneOf regionAt
-returns-2 c = rw (c .before .place .ensures .0) (passed _ (le-ltb _ _ (c .if1 .left)) refl)
+unfolding takenStep leftOf doneOf regionAt writtenBy
+returns-2 c =
+    let at-if1 = c .before .before .before .before in
+    let at-place = at-if1 .before in
+    (rw (at-place .place .ensures .0) (passed _ (le-ltb _ _ (at-if1 .if1 .left)) refl), (c .before .before .store .ensures))
 
 pub take-spec : {M : Type 1} → statement M
 take-spec =
@@ -39,7 +63,12 @@ take-spec =
     (λ c. search needs)
     (λ c. search needs)
     sub-if1
+    store-six-requires
+    (λ c. search needs)
     (λ c. search needs)
     returns
-    sub-t8
+    sub-store
+    store-requires
+    sub-t9
+    (λ c. search needs)
     returns-2)
