@@ -22,6 +22,7 @@ use Rattle.receiver.specs.Nodes.{receptionAt, soundNode, soundInFront, s
 pub third-decides : (p : ℕ → Bool) → p 0 ≡ true → p 1 ≡ true → p 2 ≡ allBelow p 3
 third-decides p a b = sym (all-last p 2 (all-more p 1 (all-more p 0 (all-none p) a) b))
 
+-- a row of tests is two rows: the first decides, and where it holds the second
 halved : (a b c d e f : Bool) → both a (both b (both (both (both c d) e) f)) ≡ both (both a (both b c)) (both (both d e) f)
 unfolding both
 halved true true true d e f = refl
