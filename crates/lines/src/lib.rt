@@ -1,8 +1,6 @@
-// What a printing program says: words and numbers, an identifier read apart, a frame offered, a request asked.
+// What a line of the published examples is made of: words and numbers, and an identifier read apart.
 mod apart;
 mod line;
-mod offers;
-mod trailer;
 
 pub use apart::read;
 pub use apart::written;
@@ -14,7 +12,3 @@ pub use line::long_hex;
 pub use line::newline;
 pub use line::refused;
 pub use line::say;
-pub use offers::alone;
-pub use offers::offer;
-pub use trailer::asked;
-pub use trailer::faulty;
