@@ -9,7 +9,7 @@ use Rattle.identifiers.specs.Below.{allBelow}
 use Rattle.identifiers.specs.Refusals.{refusal}
 use Rattle.identifiers.specs.declared.refusal.Refusal.{Refusal}
 use Rattle.identifiers.proofs.LawsBelow.{all-none, all-more, all-last}
-use Rattle.identifiers.proofs.LawsChoice.{pick-true, pick-false, stop, so}
+use Rattle.identifiers.proofs.LawsChoice.{pick-true, pick-false}
 use Rattle.readings.specs.Positions.{placeOf, takenAfter}
 use Rattle.readings.specs.declared.position.Position.{Position}
 use Rattle.readings.specs.declared.position.AddressTaken.the-variants.{Own, Refused}
@@ -34,15 +34,9 @@ module _ (n : Node) where
   abbrev test : ℕ → Bool
   test p = soundReception (receptionAt n p)
 
-  halves : soundNode n ≡ both (soundInFront n) (soundBehind n)
+  pub halves : soundNode n ≡ both (soundInFront n) (soundBehind n)
   unfolding soundNode soundInFront soundBehind allBelow both
   halves = halved (leb 1 (n .own)) (leb (n .own) 5) (allBelow test 3) (test 3) (test 4) (test 5)
-
-  pub broken-in-front : soundInFront n ≡ false → soundNode n ≡ false
-  broken-in-front e = halves ∙ sym (stop _ e)
-
-  pub behind-decides : soundInFront n ≡ true → soundNode n ≡ soundBehind n
-  behind-decides e = halves ∙ sym (so e refl)
 
 -- 1 before 15: "lent state breaks its rules"
 pub address-1 : (n : Node) (source : ℕ) → soundNode n ≡ false → takenBy n source ≡ unchanged n (refusal 1)

@@ -1,19 +1,19 @@
 -- One law for each outcome of a step, and what every step promises: it reads bytes that the frame has, writes within its vehicle's part of the buffer, keeps the rules.
 use mathlib.Core.Path.{_≡_, refl, sym, ap, _∙_}
-use mathlib.Core.Bool.{Bool, true, false}
+use mathlib.Core.Bool.{Bool, true, false, _&&_}
 use mathlib.Core.List.{List, [], _∷_}
 use mathlib.Core.Logic.{_≢_}
 use Prim.Native.Nat.{ℕ, zero, suc, _+_, _-_, _*_, _%_, _≤_, _<_, min}
 use native.Mathlib.Numerals.{add-one}
 use native.Mathlib.Omega.{arith}
-use borrow.Author.Tests.{ltb-true, ltb-false, eqb-false, leb-true, lt-ltb, le-ltb, eq-eqb, ne-eqb, le-leb}
+use borrow.Author.Tests.{ltb-true, ltb-false, eqb-true, eqb-false, leb-true, lt-ltb, le-ltb, eq-eqb, ne-eqb, le-leb}
 use lib.Dec.{eqb}
 use lib.ListN.{length, getD, set}
 use lib.Seq.{set-getD}
 use Rattle.identifiers.specs.Choice.{pick, both}
 use Rattle.identifiers.specs.Bytes.{written}
 use Rattle.identifiers.specs.Refusals.{refusal}
-use Rattle.identifiers.proofs.LawsChoice.{Holds, by-test, pick-true, pick-false, so, both-true}
+use Rattle.identifiers.proofs.LawsChoice.{Holds, by-test, pick-true, pick-false, so, and-is, both-true}
 use Rattle.identifiers.proofs.LawsBelow.{all-at, all-each}
 use Rattle.identifiers.proofs.LawsBytes.{length-written}
 use Rattle.readings.specs.Positions.{placeOf, trailerAt}
@@ -32,10 +32,11 @@ use Rattle.receiver.specs.declared.step.Received.{Received}
 use Rattle.receiver.specs.declared.step.Outcome.{Outcome}
 use Rattle.receiver.specs.declared.step.Outcome.the-variants.{Refused, Taken, Train}
 use Rattle.receiver.specs.Receptions.{closed, openWith, soundReception}
-use Rattle.receiver.specs.Nodes.{receptionAt, withReception, soundNode}
+use Rattle.receiver.specs.Nodes.{receptionAt, withReception, soundNode, soundInFront, soundBehind}
 use Rattle.receiver.specs.Frames.{judgedOf}
 use Rattle.receiver.specs.Steps.{gapOf, regionAt, kept, shut, opened, doneOf, leftOf, takenStep, followed, stepOf, judgedPlace, stepBy, ready, receivedBy, receivedAt, receivedOf, unmovedAs, movedBy, movedAt, movedOf, writtenBy, bufferAt, bufferAfter}
 use Rattle.receiver.proofs.LawsFrames.{Fair, fair}
+use Rattle.receiver.proofs.LawsNodes.{halves}
 
 -- ---- a consecutive frame, one law a rung
 pub nothing-open : (from : Position) (number count stamp : ℕ) → followed closed from number count stamp ≡ kept closed (Refused (refusal 12))
@@ -201,6 +202,17 @@ module _ (n : Node) (own : Position) (identifier : ℕ) (bytes : List ℕ) (stam
     received-sound = sound-with n (judgedPlace frame) _ (node-fitted .sound) s
 
 -- ---- the step of a node that keeps its rules, held with a buffer of 1,536 bytes
+-- how it is tested: the two halves of the node's rules, and the buffer's length
+pub ready-tested : (n : Node) (buffer : List ℕ) {front behind : Bool} → front ≡ soundInFront n → behind ≡ soundBehind n → (front && behind) && eqb (length buffer) 1536 ≡ ready n buffer
+unfolding ready
+ready-tested n buffer e f =
+    let fits = eqb (length buffer) 1536 in
+    rw (e, f) (and-is (soundInFront n && soundBehind n) fits ∙ ap (λ (b : Bool). both b fits) (and-is (soundInFront n) (soundBehind n) ∙ sym (halves n)))
+
+pub ready-facts : (n : Node) (buffer : List ℕ) → ready n buffer ≡ true → (soundNode n ≡ true) × (length buffer ≡ 1536)
+unfolding ready
+ready-facts n buffer e = let each = both-true _ _ e in (each .0, eqb-true _ _ (each .1))
+
 pub is-ready : (n : Node) (buffer : List ℕ) → soundNode n ≡ true → length buffer ≡ 1536 → ready n buffer ≡ true
 unfolding ready
 is-ready n buffer s l = sym (so s (sym (eq-eqb _ _ l)))

@@ -72,10 +72,7 @@ pub fn is_sound_behind(node: Node) -> bool
 fn is_sound(node: Node) -> bool
     ensures { λ r. ⌜ r ≡ soundNode node ⌝ }
 {
-    if !is_sound_in_front(node) {
-        return false;
-    }
-    is_sound_behind(node)
+    is_sound_in_front(node) & is_sound_behind(node)
 }
 
 // All receptions closed.

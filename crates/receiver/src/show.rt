@@ -31,9 +31,6 @@ pub fn shown<'a>(data: &'a [u8], buffer: &'a [u8], outcome: Outcome) -> &'a [u8]
             let at = 256 * (from.place() as usize);
             part(buffer, at, length as usize)
         }
-        Outcome::Refused(_) => part(data, 0, 0),
-        Outcome::OverLong { from: _ } => part(data, 0, 0),
-        Outcome::Opened { from: _ } => part(data, 0, 0),
-        Outcome::Taken { from: _ } => part(data, 0, 0),
+        _ => part(data, 0, 0),
     }
 }

@@ -291,13 +291,8 @@ pub fn move_reception(
     ensures { λ r. ⌜ (r ≡ movedOf node (now (buffer .entry)) identifier (now («data» .entry)) stamp)
         × (now (buffer .exit) ≡ bufferAfter node (now (buffer .entry)) identifier (now («data» .entry)) stamp) ⌝ }
 {
-    if !is_sound_in_front(node) {
-        return unmoved(node);
-    }
-    if !is_sound_behind(node) {
-        return unmoved(node);
-    }
-    if buffer.len() != 1536 {
+    let sound = is_sound_in_front(node) & is_sound_behind(node);
+    if !(sound & (buffer.len() == 1536)) {
         return unmoved(node);
     }
     let Vehicle::At(own) = Position::trailer(node.own) else {
@@ -340,7 +335,6 @@ impl Outcome {
         ensures { λ r. ⌜ r ≡ dueOf self ⌝ }
     {
         match self {
-            Outcome::Refused(_) => Due::Nothing,
             Outcome::OverLong { from } => Due::Send {
                 control: Control::Overflow,
                 to: from,
@@ -349,13 +343,7 @@ impl Outcome {
                 control: Control::Continue,
                 to: from,
             },
-            Outcome::Taken { from: _ } => Due::Nothing,
-            Outcome::Single {
-                from: _,
-                functional: _,
-                length: _,
-            } => Due::Nothing,
-            Outcome::Train { from: _, length: _ } => Due::Nothing,
+            _ => Due::Nothing,
         }
     }
 

@@ -3,9 +3,9 @@ use mathlib.Core.Path.{_≡_, refl, sym, ap, _∙_}
 use mathlib.Core.List.{List}
 use Prim.Native.Nat.{ℕ}
 use borrow.Author.Needs.{needs}
-use borrow.Author.Tests.{ne-eqb, not-true, not-false}
+use borrow.Author.Tests.{not-true, not-false}
 use lib.ListN.{length}
-use Rattle.identifiers.proofs.LawsChoice.{taken, passed, stop, so}
+use Rattle.identifiers.proofs.LawsChoice.{taken, passed}
 use Rattle.readings.specs.Positions.{trailerAt}
 use Rattle.readings.specs.declared.position.Position.{Position}
 use Rattle.readings.specs.declared.position.Vehicle.the-variants.{At}
@@ -15,10 +15,9 @@ use Rattle.receiver.specs.declared.frame.Judged.the-variants.{First}
 use Rattle.receiver.specs.declared.step.Step.{Step}
 use Rattle.receiver.specs.Nodes.{receptionAt}
 use Rattle.receiver.specs.Frames.{judgedOf}
-use Rattle.receiver.specs.Steps.{judgedPlace, stepOf, stepBy, ready, movedBy, movedAt, movedOf, writtenBy, bufferAt, bufferAfter}
+use Rattle.receiver.specs.Steps.{judgedPlace, stepOf, stepBy, movedBy, movedAt, movedOf, writtenBy, bufferAt, bufferAfter}
 use Rattle.receiver.proofs.LawsFrames.{fair}
-use Rattle.receiver.proofs.LawsNodes.{broken-in-front, behind-decides}
-use Rattle.receiver.proofs.LawsSteps.{sound-at, is-ready}
+use Rattle.receiver.proofs.LawsSteps.{sound-at, ready-tested, ready-facts}
 use Rattle.receiver.proofs.step.move_reception.Statement.{statement}
 use Rattle.receiver.proofs.step.move_reception.Tie as tie
 
@@ -38,83 +37,54 @@ module _ (n : Node) (own : Position) (identifier stamp : ℕ) (bytes : List ℕ)
   stored buffer = rw (t, ← is-step)
 
 returns : tie.Need-returns
-unfolding movedOf bufferAfter ready
+unfolding movedOf bufferAfter
 returns c =
-    let front = sym (c .before .before .is-sound-in-front .ensures) ∙ not-true _ (c .before .if1 .taken) in
-    let e = sym (stop _ (broken-in-front _ front)) in
+    let at-is-sound-behind = c .before .before in
+    let at-is-sound-in-front = at-is-sound-behind .before in
+    let entry = at-is-sound-in-front .before .before .before in
+    let e = sym (ready-tested (entry .args .t1) (entry .args .buffer .now) (at-is-sound-in-front .is-sound-in-front .ensures) (at-is-sound-behind .is-sound-behind .ensures)) ∙ not-true _ (c .before .if1 .taken) in
     (passed _ e (c .unmoved .ensures), passed _ e refl)
 
 returns-2 : tie.Need-returns-2
-unfolding movedOf bufferAfter ready
-returns-2 c =
-    let at-if1 = c .before .before .before in
-    let at-is-sound-in-front = at-if1 .before in
-    let front = sym (at-is-sound-in-front .is-sound-in-front .ensures) ∙ not-false _ (at-if1 .if1 .left) in
-    let behind = sym (c .before .before .is-sound-behind .ensures) ∙ not-true _ (c .before .if2 .taken) in
-    let e = sym (stop _ (behind-decides _ front ∙ behind)) in
-    (passed _ e (c .unmoved2 .ensures), passed _ e refl)
-
-returns-3 : tie.Need-returns-3
-unfolding movedOf bufferAfter ready
-returns-3 c =
-    let at-is-sound-behind = c .before .before .before in
-    let at-if1 = at-is-sound-behind .before in
-    let at-is-sound-in-front = at-if1 .before in
-    let front = sym (at-is-sound-in-front .is-sound-in-front .ensures) ∙ not-false _ (at-if1 .if1 .left) in
-    let behind = sym (at-is-sound-behind .is-sound-behind .ensures) ∙ not-false _ (c .before .before .if2 .left) in
-    let e = sym (so (behind-decides _ front ∙ behind) (sym (ne-eqb _ _ (c .before .if3 .taken)))) in
-    (passed _ e (c .unmoved3 .ensures), passed _ e refl)
-
-returns-4 : tie.Need-returns-4
 unfolding movedOf bufferAfter movedAt bufferAt
-returns-4 c =
+returns-2 c =
     let at-trailer = c .before .before .before in
-    let at-if3 = at-trailer .before in
-    let at-if2 = at-if3 .before in
-    let at-is-sound-behind = at-if2 .before in
-    let at-if1 = at-is-sound-behind .before in
-    let at-is-sound-in-front = at-if1 .before in
+    let at-if1 = at-trailer .before in
+    let at-is-sound-behind = at-if1 .before in
+    let at-is-sound-in-front = at-is-sound-behind .before in
     let entry = at-is-sound-in-front .before .before .before in
-    let front = sym (at-is-sound-in-front .is-sound-in-front .ensures) ∙ not-false _ (at-if1 .if1 .left) in
-    let behind = sym (at-is-sound-behind .is-sound-behind .ensures) ∙ not-false _ (at-if2 .if2 .left) in
-    let e = is-ready (entry .args .t1) _ (behind-decides _ front ∙ behind) (at-if3 .if3 .left) in
+    let e = sym (ready-tested (entry .args .t1) (entry .args .buffer .now) (at-is-sound-in-front .is-sound-in-front .ensures) (at-is-sound-behind .is-sound-behind .ensures)) ∙ not-false _ (at-if1 .if1 .left) in
     let v = sym (sym (at-trailer .trailer .ensures) ∙ (c .before .enum-told .given .1)) in
-    (taken _ e ((c .unmoved4 .ensures) ∙ ap (movedAt _ _ _ _) v), taken _ e (ap (bufferAt _ _ _ _ _) v))
+    (taken _ e ((c .unmoved2 .ensures) ∙ ap (movedAt _ _ _ _) v), taken _ e (ap (bufferAt _ _ _ _ _) v))
 
 decide-requires : tie.Need-decide-requires
 unfolding receptionAt
 decide-requires c κs =
     let at-judge = c .before .before .before in
-    let at-if3 = at-judge .before .before .before .before .before in
-    let at-if2 = at-if3 .before in
-    let at-is-sound-behind = at-if2 .before in
-    let at-if1 = at-is-sound-behind .before in
-    let at-is-sound-in-front = at-if1 .before in
+    let at-if1 = at-judge .before .before .before .before .before in
+    let at-is-sound-behind = at-if1 .before in
+    let at-is-sound-in-front = at-is-sound-behind .before in
     let entry = at-is-sound-in-front .before .before .before in
-    let front = sym (at-is-sound-in-front .is-sound-in-front .ensures) ∙ not-false _ (at-if1 .if1 .left) in
-    let behind = sym (at-is-sound-behind .is-sound-behind .ensures) ∙ not-false _ (at-if2 .if2 .left) in (
-      sound-at (entry .args .t1) (c .before .before .place-of .result) (behind-decides _ front ∙ behind) (c .before .before .place-of .ensures .1),
-      (at-if3 .if3 .left),
+    let e = sym (ready-tested (entry .args .t1) (entry .args .buffer .now) (at-is-sound-in-front .is-sound-in-front .ensures) (at-is-sound-behind .is-sound-behind .ensures)) ∙ not-false _ (at-if1 .if1 .left) in
+    let facts = ready-facts (entry .args .t1) (entry .args .buffer .now) e in (
+      sound-at (entry .args .t1) (c .before .before .place-of .result) (facts .0) (c .before .before .place-of .ensures .1),
+      facts .1,
       λ (q : Position) (L : ℕ) (e : (at-judge .judge .result) ≡ First q L). fair _ _ _ _ (First q L) (sym (at-judge .judge .ensures) ∙ e) .1 .room,
     )
 
-returns-5 : tie.Need-returns-5
+returns-3 : tie.Need-returns-3
 unfolding movedOf bufferAfter receptionAt
-returns-5 c =
+returns-3 c =
     let at-decide = c .before .before .before in
     let at-place-of = at-decide .before .before .before in
     let at-judge = at-place-of .before in
     let at-own = at-judge .before .before in
     let at-trailer = at-own .before .before in
-    let at-if3 = at-trailer .before in
-    let at-if2 = at-if3 .before in
-    let at-is-sound-behind = at-if2 .before in
-    let at-if1 = at-is-sound-behind .before in
-    let at-is-sound-in-front = at-if1 .before in
+    let at-if1 = at-trailer .before in
+    let at-is-sound-behind = at-if1 .before in
+    let at-is-sound-in-front = at-is-sound-behind .before in
     let entry = at-is-sound-in-front .before .before .before in
-    let front = sym (at-is-sound-in-front .is-sound-in-front .ensures) ∙ not-false _ (at-if1 .if1 .left) in
-    let behind = sym (at-is-sound-behind .is-sound-behind .ensures) ∙ not-false _ (at-if2 .if2 .left) in
-    let e = is-ready (entry .args .t1) _ (behind-decides _ front ∙ behind) (at-if3 .if3 .left) in
+    let e = sym (ready-tested (entry .args .t1) (entry .args .buffer .now) (at-is-sound-in-front .is-sound-in-front .ensures) (at-is-sound-behind .is-sound-behind .ensures)) ∙ not-false _ (at-if1 .if1 .left) in
     let t = sym (at-trailer .trailer .ensures) ∙ (at-own .own .given .1) in (
       taken _ e (moved (entry .args .t1) _ _ _ _ _ _ _ t (at-judge .judge .ensures) (at-place-of .place-of .ensures .0) (at-decide .decide .ensures .0)),
       taken _ e ((at-decide .decide .ensures .1) ∙ stored (entry .args .t1) _ _ _ _ _ _ _ t (at-judge .judge .ensures) (at-place-of .place-of .ensures .0) (at-decide .decide .ensures .0) _),
@@ -126,21 +96,17 @@ move-reception-spec =
     (tie.spec
     (λ c κs. search needs)
     (λ c κs. search needs)
+    (λ c κs. search needs)
     returns
     (λ c κs. search needs)
+    (λ c. search needs)
+    (λ c. search needs)
     (λ c κs. search needs)
     returns-2
-    (λ c κs. search needs)
-    returns-3
-    (λ c κs. search needs)
-    (λ c. search needs)
-    (λ c. search needs)
-    (λ c κs. search needs)
-    returns-4
     (λ c κs. search needs)
     (λ c κs. search needs)
     (λ c. search needs)
     (λ c. search needs)
     decide-requires
     (λ c. search needs)
-    returns-5)
+    returns-3)
