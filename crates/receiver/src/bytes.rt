@@ -1,8 +1,17 @@
-// Bytes of a slice copied into a lent buffer.
+// How many message bytes a frame carries, and bytes of a slice copied into a lent buffer.
 ghost use mathlib.Core.Path.{_≡_};
-ghost use Prim.Native.Nat.{_+_, _≤_};
+ghost use Prim.Native.Nat.{_+_, _≤_, min};
 ghost use lib.ListN.{length, take, drop};
 ghost use Rattle.identifiers.specs.Bytes.{written};
+
+pub fn at_most_six(left: usize) -> usize
+    ensures { λ r. ⌜ r ≡ min 6 left ⌝ }
+{
+    if left < 6 {
+        return left;
+    }
+    6
+}
 
 // Writes `count` bytes of `source`, from `start` on, into `buffer` from `at` on; every other byte stays.
 pub fn store(buffer: &mut [u8], at: usize, source: &[u8], start: usize, count: usize)
