@@ -360,15 +360,18 @@ impl Outcome {
                 length,
                 control: 0,
             },
-            Outcome::Train { from, length } => OutcomeTold {
-                refusal: 0,
-                handed_out: 2,
-                from: from.place(),
-                functional: false,
-                start: region_start(from),
-                length,
-                control: 0,
-            },
+            Outcome::Train { from, length } => {
+                let p = place(from);
+                OutcomeTold {
+                    refusal: 0,
+                    handed_out: 2,
+                    from: p as u8,
+                    functional: false,
+                    start: 256 * (p as u16),
+                    length,
+                    control: 0,
+                }
+            }
         }
     }
 }
@@ -385,10 +388,4 @@ fn nothing_handed_out(refusal: u8, from: u8, control: u8) -> OutcomeTold
         length: 0,
         control,
     }
-}
-
-fn region_start(position: Position) -> u16
-    ensures { λ r. ⌜ r ≡ 256 * placeOf position ⌝ }
-{
-    256 * (place(position) as u16)
 }

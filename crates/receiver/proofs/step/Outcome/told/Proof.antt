@@ -1,5 +1,6 @@
 -- `Outcome::told` meets its contract: the numbers of each case.
 use mathlib.Core.Path.{sym, ap, _∙_}
+use native.Mathlib.Omega.{arith}
 use borrow.Author.Needs.{needs}
 use Rattle.receiver.specs.Steps.{outcomeTold}
 use Rattle.receiver.proofs.step.Outcome.told.Statement.{statement}
@@ -35,9 +36,7 @@ returns-5 c = rw (c .place4 .ensures) (ap outcomeTold (sym (c .before .before .s
 
 returns-6 : tie.Need-returns-6
 unfolding outcomeTold
-returns-6 c =
-    let at-self6 = c .before .before .before in
-    rw ((c .before .place5 .ensures), (c .region-start .ensures)) (ap outcomeTold (sym (at-self6 .self6 .given .1)))
+returns-6 c = rw (c .place5 .ensures .0) (ap outcomeTold (sym (c .before .before .self6 .given .1)))
 
 pub told-spec : {M : Type 1} → statement M
 told-spec =
@@ -59,7 +58,9 @@ told-spec =
     (λ c κs. search needs)
     (λ c. search needs)
     (λ c κs. search needs)
-    (λ c κs. search needs)
+    (λ c. omega (arith, c .place5 .ensures .1))
+    (λ c. omega (arith, c .place5 .ensures .1))
+    (λ c. omega (arith, c .place5 .ensures .1))
     returns
     returns-2
     returns-3
