@@ -1,9 +1,8 @@
 -- What the cutter's functions go by: where a frame of a message starts, what its data are, and between which positions.
-use mathlib.Core.Path.{_≡_, refl, sym, ap, ap₂, _∙_}
+use mathlib.Core.Path.{_≡_, refl, sym, ap₂, _∙_}
 use mathlib.Core.Bool.{Bool, true, false}
 use mathlib.Core.List.{List, [], _∷_}
-use Prim.Native.Nat.{ℕ, _+_, _*_, _-_, _/_, _≤_, _<_, min}
-use native.Mathlib.Decide.{decLt}
+use Prim.Native.Nat.{ℕ, _+_, _*_, _-_, _/_, _≤_, _<_}
 use native.Mathlib.Omega.{arith}
 use borrow.Author.Tests.{eqb-false, ltb-false, lt-leb}
 use lib.Dec.{leb, ltb, eqb}
@@ -46,15 +45,8 @@ frames-start L k h l =
 pub whole-part : (m : List ℕ) → take (length m) (drop 0 m) ≡ m
 whole-part m = take-length m
 
-pub six-part : (m : List ℕ) (start : ℕ) → take (min 6 (length m - start)) (drop start m) ≡ take 6 (drop start m)
-six-part m start = go (decLt (length m - start) 6)
-  where
-    rest : List ℕ
-    rest = drop start m
-
-    go : Dec (length m - start < 6) → take (min 6 (length m - start)) rest ≡ take 6 rest
-    go (yes h) = take-all (min 6 (length m - start)) rest (rw length-drop (omega arith)) ∙ sym (take-all 6 rest (rw length-drop (omega arith)))
-    go (no h) = let e : min 6 (length m - start) ≡ 6 = omega arith in ap (λ (k : ℕ). take k rest) e
+pub rest-part : (m : List ℕ) (start : ℕ) → length m - start ≤ 6 → take (length m - start) (drop start m) ≡ take 6 (drop start m)
+rest-part m start h = take-all (length m - start) (drop start m) (rw length-drop (omega arith)) ∙ sym (take-all 6 (drop start m) (rw length-drop (omega arith)))
 
 pub headed-two : (sender receiver : Position) (unit control : ℕ) (m : List ℕ) (start count : ℕ) {after : List ℕ} → start + count ≤ length m
     → after ≡ written (unit ∷ control ∷ 0 ∷ 0 ∷ 0 ∷ 0 ∷ 0 ∷ 0 ∷ []) 2 (take count (drop start m))

@@ -1,17 +1,8 @@
-// How many message bytes a frame carries, and bytes of a slice copied into a lent buffer.
+// Bytes of a slice copied into a lent buffer.
 ghost use mathlib.Core.Path.{_≡_};
-ghost use Prim.Native.Nat.{_+_, _≤_, min};
+ghost use Prim.Native.Nat.{_+_, _≤_};
 ghost use lib.ListN.{length, take, drop};
 ghost use Rattle.identifiers.specs.Bytes.{written};
-
-pub fn at_most_six(left: usize) -> usize
-    ensures { λ r. ⌜ r ≡ min 6 left ⌝ }
-{
-    if left < 6 {
-        return left;
-    }
-    6
-}
 
 // Writes `count` bytes of `source`, from `start` on, into `buffer` from `at` on; every other byte stays.
 pub fn store(buffer: &mut [u8], at: usize, source: &[u8], start: usize, count: usize)
@@ -23,28 +14,31 @@ pub fn store(buffer: &mut [u8], at: usize, source: &[u8], start: usize, count: u
     }
 }
 
-// The same of three bytes, all read before the first is written.
-fn store_three(buffer: &mut [u8], at: usize, source: &[u8], start: usize)
-    requires { ⌜ (at + 3 ≤ length (now buffer)) × (start + 3 ≤ length (now source)) ⌝ }
-    ensures { λ _. ⌜ now (buffer .exit) ≡ written (now (buffer .entry)) at (take 3 (drop start (now (source .entry)))) ⌝ }
-{
-    let start1 = start + 1;
-    let start2 = start1 + 1;
-    let byte0 = source[start];
-    let byte1 = source[start1];
-    let byte2 = source[start2];
-    let at1 = at + 1;
-    let at2 = at1 + 1;
-    buffer[at] = byte0;
-    buffer[at1] = byte1;
-    buffer[at2] = byte2;
-}
-
-// The same of six bytes, in two halves: no loop once compiled.
+// The same of six bytes, all read before the first is written: two loads and two stores once compiled.
 pub fn store_six(buffer: &mut [u8], at: usize, source: &[u8], start: usize)
     requires { ⌜ (at + 6 ≤ length (now buffer)) × (start + 6 ≤ length (now source)) ⌝ }
     ensures { λ _. ⌜ now (buffer .exit) ≡ written (now (buffer .entry)) at (take 6 (drop start (now (source .entry)))) ⌝ }
 {
-    store_three(buffer, at, source, start);
-    store_three(buffer, at + 3, source, start + 3);
+    let start1 = start + 1;
+    let start2 = start1 + 1;
+    let start3 = start2 + 1;
+    let start4 = start3 + 1;
+    let start5 = start4 + 1;
+    let byte0 = source[start];
+    let byte1 = source[start1];
+    let byte2 = source[start2];
+    let byte3 = source[start3];
+    let byte4 = source[start4];
+    let byte5 = source[start5];
+    let at1 = at + 1;
+    let at2 = at1 + 1;
+    let at3 = at2 + 1;
+    let at4 = at3 + 1;
+    let at5 = at4 + 1;
+    buffer[at] = byte0;
+    buffer[at1] = byte1;
+    buffer[at2] = byte2;
+    buffer[at3] = byte3;
+    buffer[at4] = byte4;
+    buffer[at5] = byte5;
 }

@@ -4,7 +4,6 @@ ghost use Prim.Native.Nat.{_+_, _≤_, _<_};
 ghost use mathlib.Core.List.{[], _∷_};
 ghost use lib.ListN.{length, take, drop};
 ghost use Rattle.receiver.specs.Cuts.{framesOf, noFrame, framed, headed, pieceOf, cutOf, controlByte, controlOf, cutTold};
-use crate::bytes::at_most_six;
 use crate::bytes::store;
 use crate::node::Answer;
 use crate::step::Control;
@@ -121,8 +120,18 @@ fn piece(sender: Position, receiver: Position, unit: u8, message: &[u8], number:
     }
     let start = 5 + 6 * (number - 1);
     let control = 0x20 + (number % 16) as u8;
-    let count = at_most_six(total - start);
-    single_or_consecutive(sender, receiver, unit, control, message, start, count)
+    if total - start < 6 {
+        return single_or_consecutive(
+            sender,
+            receiver,
+            unit,
+            control,
+            message,
+            start,
+            total - start,
+        );
+    }
+    single_or_consecutive(sender, receiver, unit, control, message, start, 6)
 }
 
 // One frame of a message: refusal 16 for a message of 0 or over 255 bytes, a frame past the last, positions over 5 or equal.

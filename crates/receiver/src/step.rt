@@ -8,7 +8,6 @@ ghost use Rattle.readings.specs.declared.position.Position.{Position};
 ghost use Rattle.receiver.specs.declared.frame.Judged.the-variants.{First};
 ghost use Rattle.receiver.specs.Receptions.{soundReception};
 ghost use Rattle.receiver.specs.Steps.{gapOf, kept, shut, opened, leftOf, takenStep, followed, stepOf, judgedPlace, unmovedAs, movedOf, receivedOf, writtenBy, bufferAfter, dueOf, nothingTold, outcomeTold};
-use crate::bytes::at_most_six;
 use crate::bytes::store;
 use crate::bytes::store_six;
 use crate::frame::Judged;
@@ -180,6 +179,15 @@ fn take(buffer: &mut [u8], data: &[u8], reception: Reception, from: Position, st
             length: reception.length,
         },
     }
+}
+
+fn at_most_six(left: usize) -> usize
+    ensures { λ r. ⌜ r ≡ min 6 left ⌝ }
+{
+    if left < 6 {
+        return left;
+    }
+    6
 }
 
 // A consecutive frame: 12, then 9, 13 and 14.

@@ -1,36 +1,73 @@
--- `store_six` meets its contract: two halves in a row are the whole.
-use mathlib.Core.Path.{_≡_, sym, ap, _∙_}
-use mathlib.Core.List.{List, _++_}
-use Prim.Native.Nat.{ℕ, _+_, _≤_}
+-- `store_six` meets its contract: six stores in a row, of the six bytes that stand at `start`.
+use mathlib.Core.Path.{_≡_}
+use mathlib.Core.List.{List, [], _∷_}
+use Prim.Native.Nat.{ℕ, suc, _+_, _<_, _≤_}
+use native.Mathlib.Numerals.{add-one}
 use native.Mathlib.Omega.{arith}
 use borrow.Author.Needs.{needs}
-use lib.ListN.{length, take, drop, length-drop}
-use lib.Seq.{take-add, drop-drop, length-take-le}
+use lib.ListN.{length, getD, set, take, drop, length-set}
+use lib.Seq.{drop-cons}
 use Rattle.identifiers.specs.Bytes.{written}
-use Rattle.identifiers.proofs.LawsBytes.{written-append}
 use Rattle.receiver.proofs.bytes.store_six.Statement.{statement}
 use Rattle.receiver.proofs.bytes.store_six.Tie as tie
 
-halves : (b l : List ℕ) (at i : ℕ) → i + 6 ≤ length l → written (written b at (take 3 (drop i l))) (at + 3) (take 3 (drop (i + 3) l)) ≡ written b at (take 6 (drop i l))
-halves b l at i h =
-    let n : length (take 3 (drop i l)) ≡ 3 = length-take-le 3 (drop i l) (rw length-drop (omega arith)) in
-    let whole : take 6 (drop i l) ≡ take 3 (drop i l) ++ take 3 (drop (i + 3) l) = take-add 3 3 (drop i l) ∙ ap (λ (r : List ℕ). take 3 (drop i l) ++ take 3 r) (drop-drop 3 i l) in
-    sym (ap (written b at) whole ∙ written-append b at (take 3 (drop i l)) (take 3 (drop (i + 3) l)) ∙ ap (λ (k : ℕ). written (written b at (take 3 (drop i l))) (at + k) (take 3 (drop (i + 3) l))) n)
+next : (l : List ℕ) (n i : ℕ) → i < length l → take (suc n) (drop i l) ≡ getD l i 0 ∷ take n (drop (i + 1) l)
+next l n i h = rw (add-one i, drop-cons l i 0)
+
+six : (l : List ℕ) (i : ℕ) → i + 6 ≤ length l → take 6 (drop i l)
+    ≡ getD l i 0 ∷ getD l (i + 1) 0 ∷ getD l (i + 1 + 1) 0 ∷ getD l (i + 1 + 1 + 1) 0 ∷ getD l (i + 1 + 1 + 1 + 1) 0 ∷ getD l (i + 1 + 1 + 1 + 1 + 1) 0 ∷ []
+six l i h =
+    rw (next l 5 i (omega arith), next l 4 (i + 1) (omega arith), next l 3 (i + 1 + 1) (omega arith), next l 2 (i + 1 + 1 + 1) (omega arith), next l 1 (i + 1 + 1 + 1 + 1) (omega arith), next l 0 (i + 1 + 1 + 1 + 1 + 1) (omega arith))
+
+slice-write-buffer-2 : tie.Need-slice-write-buffer-2
+slice-write-buffer-2 c = simp length-set (omega arith)
+
+slice-write-buffer-3 : tie.Need-slice-write-buffer-3
+slice-write-buffer-3 c = simp length-set (omega arith)
+
+slice-write-buffer-4 : tie.Need-slice-write-buffer-4
+slice-write-buffer-4 c = simp length-set (omega arith)
+
+slice-write-buffer-5 : tie.Need-slice-write-buffer-5
+slice-write-buffer-5 c = simp length-set (omega arith)
+
+slice-write-buffer-6 : tie.Need-slice-write-buffer-6
+slice-write-buffer-6 c = simp length-set (omega arith)
+
+same-length : tie.Need-same-length
+same-length c = simp length-set
 
 returns : tie.Need-returns
+unfolding written
 returns c =
-    let second = c .before .before in
-    let first = second .before .before .before .before in
-    let entry = first .before .before .before .before in
-    (second .store-three2 .ensures) ∙ rw (first .store-three .ensures) (halves (entry .args .buffer .now) (entry .args .source .now) (entry .args .at) (entry .args .start) (entry .pre .1))
+    let entry = c .before .before .before .before .before .before in
+    rw (six (entry .args .source .now) (entry .args .start) (entry .pre .1))
 
 pub store-six-spec : {M : Type 1} → statement M
 store-six-spec =
     tie.close
     (tie.spec
-    (λ c κs. search needs)
     (λ c. search needs)
     (λ c. search needs)
-    (λ c κs. search needs)
     (λ c. search needs)
+    (λ c. search needs)
+    (λ c. search needs)
+    (λ c. search needs)
+    (λ c. search needs)
+    (λ c. search needs)
+    (λ c. search needs)
+    (λ c. search needs)
+    (λ c. search needs)
+    (λ c. search needs)
+    (λ c. search needs)
+    (λ c. search needs)
+    (λ c. search needs)
+    (λ c. search needs)
+    (λ c. search needs)
+    slice-write-buffer-2
+    slice-write-buffer-3
+    slice-write-buffer-4
+    slice-write-buffer-5
+    slice-write-buffer-6
+    same-length
     returns)

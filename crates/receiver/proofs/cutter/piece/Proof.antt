@@ -6,7 +6,7 @@ use borrow.Author.Tests.{le-leb, lt-leb, eq-eqb, ne-eqb}
 use lib.ListN.{length}
 use Rattle.identifiers.proofs.LawsChoice.{taken, passed}
 use Rattle.receiver.specs.Cuts.{pieceOf}
-use Rattle.receiver.proofs.LawsPieces.{frames-range, frames-start, whole-part, six-part}
+use Rattle.receiver.proofs.LawsPieces.{frames-range, frames-start, whole-part, rest-part}
 use Rattle.receiver.proofs.cutter.piece.Statement.{statement}
 use Rattle.receiver.proofs.cutter.piece.Tie as tie
 
@@ -38,24 +38,33 @@ add-start c =
     let entry = c .before .before .before in
     omega (arith, frames-start (length (entry .args .message .now)) (entry .args .number) (entry .pre) (c .before .if1 .left))
 
-sub-at-most-six : tie.Need-sub-at-most-six
-sub-at-most-six c =
+sub-if3 : tie.Need-sub-if3
+sub-if3 c =
     let entry = c .before .before .before in
     omega (arith, frames-start (length (entry .args .message .now)) (entry .args .number) (entry .pre) (c .before .if1 .left))
+
+sub-single-or-consecutive : tie.Need-sub-single-or-consecutive
+sub-single-or-consecutive c =
+    let entry = c .before .before .before .before in
+    omega (arith, frames-start (length (entry .args .message .now)) (entry .args .number) (entry .pre) (c .before .before .if1 .left))
 
 single-or-consecutive-requires-2 : tie.Need-single-or-consecutive-requires-2
 single-or-consecutive-requires-2 c κs =
     let entry = c .before .before .before .before in
-    let six = c .at-most-six .ensures in
-    (omega (arith, six), omega (arith, six, frames-start (length (entry .args .message .now)) (entry .args .number) (entry .pre) (c .before .before .if1 .left)))
+    (omega arith, omega (arith, frames-start (length (entry .args .message .now)) (entry .args .number) (entry .pre) (c .before .before .if1 .left)))
 
 returns-3 : tie.Need-returns-3
 unfolding pieceOf
 returns-3 c =
     let at-if1 = c .before .before .before in
     let entry = at-if1 .before .before in
-    passed _ (lt-leb _ _ (at-if1 .if1 .left))
-    (passed _ (ne-eqb _ _ (c .before .before .if2 .left)) (rw (c .before .at-most-six .ensures, six-part (entry .args .message .now) (5 + 6 * ((entry .args .number) - 1))) at (c .single-or-consecutive2 .ensures)))
+    passed _ (lt-leb _ _ (at-if1 .if1 .left)) (passed _ (ne-eqb _ _ (c .before .before .if2 .left)) (rw (rest-part (entry .args .message .now) (5 + 6 * ((entry .args .number) - 1)) (omega arith)) at (c .single-or-consecutive2 .ensures)))
+
+returns-4 : tie.Need-returns-4
+unfolding pieceOf
+returns-4 c =
+    let at-if1 = c .before .before .before in
+    passed _ (lt-leb _ _ (at-if1 .if1 .left)) (passed _ (ne-eqb _ _ (c .before .before .if2 .left)) (c .single-or-consecutive3 .ensures))
 
 pub piece-spec : {M : Type 1} → statement M
 piece-spec =
@@ -71,7 +80,9 @@ piece-spec =
     add-start
     (λ c. search needs)
     (λ c. search needs)
-    sub-at-most-six
-    (λ c κs. search needs)
+    sub-if3
+    sub-single-or-consecutive
     single-or-consecutive-requires-2
-    returns-3)
+    returns-3
+    (λ c κs. search needs)
+    returns-4)
