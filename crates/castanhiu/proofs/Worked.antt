@@ -26,7 +26,7 @@ use Rattle.readings.specs.declared.reading.ParameterRead.the-variants as parame
 use Rattle.receiver.specs.Receptions.{soundReception}
 use Rattle.receiver.specs.Nodes.{receptionAt, withReception, soundNode, freshNode}
 use Rattle.receiver.specs.Frames.{Frame, singleOf, firstLength, firstOf, kindOf, unitIs, diagnostic, destinationOf, addressedFrom, addressedOf, judgedRead, judgedOf}
-use Rattle.receiver.specs.Steps.{gapOf, regionAt, kept, shut, opened, doneOf, leftOf, takenStep, followed, stepOf, stepBy, ready, receivedBy, receivedAt, receivedOf, writtenBy, bufferAt, bufferAfter}
+use Rattle.receiver.specs.Steps.{gapOf, regionAt, kept, shut, opened, doneOf, leftOf, takenStep, followed, stepOf, stepBy, ownOf, receivedBy, receivedAt, receivedOf, writtenBy, bufferAt, bufferAfter}
 use Rattle.receiver.specs.Shown.{shownOf}
 use Rattle.receiver.specs.Cuts.{framesOf, noFrame, physicalTo, framedAs, framed, headed, pieceOf, between, cutOf}
 use Rattle.receiver.specs.Sequences.{start, _▹_, size, Request}
@@ -154,7 +154,7 @@ pub record Worked : Type 0 where
   pub short-bytes : response (0x3E ∷ []) ≡ 0x7F ∷ 0x3E ∷ 0x13 ∷ replicate 252 0xAA
 
 pub worked : Worked
-unfolding round pick both either allBelow countBelow listBelow written formula reservedBit fieldsOf frameRead readOf writtenAs targetOf fraction kinds.kindOf kinds.highByte kinds.wholeOf addresses addressOf positions vehicleAmong vehicleOf positionAt trailerAt successorOf nextOf takenAs takenAfter bare valued inRange measuredBy measuredAs parameterOf soundReception receptionAt withReception soundNode freshNode singleOf firstLength firstOf kindOf unitIs diagnostic destinationOf addressedFrom addressedOf judgedRead judgedOf gapOf regionAt kept shut opened doneOf leftOf takenStep followed stepOf stepBy ready receivedBy receivedAt receivedOf writtenBy bufferAt bufferAfter shownOf framesOf noFrame physicalTo framedAs framed headed pieceOf between cutOf size offered handed handedAt requests maskKept places.firstBelow places.placeOf places.heldAmong ascending codesBelow statusWithin statusesWithin lengthsWithin soundFields soundRecord matches listed countListed twoBytes codeAndStatus listedAt reportOf groupHeld inGroup clearedBelow askedCount askedAt dataAt dataOf identifierAndData answerTo answerAt answersOf serviceOf subFunctionOf maskOf groupOf knownService hasSubFunction knownSubFunction rightLength formOf suppressed quietCode silentOn faultsOf contentOf14 contentOf19 contentOf22 contentFields negativeFields negativeOf negativeBytes positiveFields positiveOf statusesAfter withStatuses wrongLengths outcomeOf
+unfolding round pick both either allBelow countBelow listBelow written formula reservedBit fieldsOf frameRead readOf writtenAs targetOf fraction kinds.kindOf kinds.highByte kinds.wholeOf addresses addressOf positions vehicleAmong vehicleOf positionAt trailerAt successorOf nextOf takenAs takenAfter bare valued inRange measuredBy measuredAs parameterOf soundReception receptionAt withReception soundNode freshNode singleOf firstLength firstOf kindOf unitIs diagnostic destinationOf addressedFrom addressedOf judgedRead judgedOf gapOf regionAt kept shut opened doneOf leftOf takenStep followed stepOf stepBy ownOf receivedBy receivedAt receivedOf writtenBy bufferAt bufferAfter shownOf framesOf noFrame physicalTo framedAs framed headed pieceOf between cutOf size offered handed handedAt requests maskKept places.firstBelow places.placeOf places.heldAmong ascending codesBelow statusWithin statusesWithin lengthsWithin soundFields soundRecord matches listed countListed twoBytes codeAndStatus listedAt reportOf groupHeld inGroup clearedBelow askedCount askedAt dataAt dataOf identifierAndData answerTo answerAt answersOf serviceOf subFunctionOf maskOf groupOf knownService hasSubFunction knownSubFunction rightLength formOf suppressed quietCode silentOn faultsOf contentOf14 contentOf19 contentOf22 contentFields negativeFields negativeOf negativeBytes positiveFields positiveOf statusesAfter withStatuses wrongLengths outcomeOf
 worked =
     record {
       identifier = refl;

@@ -88,7 +88,7 @@ place-only (suc (suc (suc (suc zero)))) q e = same-place Four q e
 place-only (suc (suc (suc (suc (suc zero))))) q e = same-place Five q e
 place-only (suc (suc (suc (suc (suc (suc n)))))) q e = absurd (let z : _≡_ {A = ℕ} 0 1 = cc in omega arith)
 
-not-none : (p : Position) → NoVehicle ≡ At p → ⊥
+pub not-none : (p : Position) → NoVehicle ≡ At p → ⊥
 not-none p e = let z : _≡_ {A = ℕ} 0 1 = cc in omega arith
 
 -- a trailer's position is 1 to 5, and each of them is

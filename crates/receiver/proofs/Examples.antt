@@ -13,7 +13,7 @@ use Rattle.readings.specs.declared.position.Position.the-variants.{Zero, Two}
 use Rattle.receiver.specs.Receptions.{soundReception}
 use Rattle.receiver.specs.Nodes.{receptionAt, withReception, soundNode, freshNode}
 use Rattle.receiver.specs.Frames.{Frame, singleOf, firstLength, firstOf, kindOf, unitIs, diagnostic, destinationOf, addressedFrom, addressedOf, judgedRead, judgedOf}
-use Rattle.receiver.specs.Steps.{gapOf, regionAt, kept, shut, opened, doneOf, leftOf, takenStep, followed, stepOf, stepBy, ready, receivedBy, receivedAt, receivedOf, writtenBy, bufferAt, bufferAfter}
+use Rattle.receiver.specs.Steps.{gapOf, regionAt, kept, shut, opened, doneOf, leftOf, takenStep, followed, stepOf, stepBy, ownOf, receivedBy, receivedAt, receivedOf, writtenBy, bufferAt, bufferAfter}
 use Rattle.receiver.specs.Shown.{shownOf}
 use Rattle.receiver.specs.Sequences.{Line, start, _▹_, size}
 use Rattle.receiver.specs.Runs.{Held, offered, handed, handedAt, requests}
@@ -37,5 +37,5 @@ pub unmixed : requests held line
     ∷ record { at = 3; from = Zero; functional = false; bytes = 0xA1 ∷ 0xA2 ∷ 0xA3 ∷ 0xA4 ∷ 0xA5 ∷ 0xA6 ∷ 0xA7 ∷ 0xA8 ∷ [] }
     ∷ record { at = 2; from = Zero; functional = true; bytes = 0x3E ∷ 0x00 ∷ [] }
     ∷ []
-unfolding pick both either allBelow written reservedBit fieldsOf frameRead addresses addressOf positions vehicleAmong vehicleOf positionAt trailerAt soundReception receptionAt withReception soundNode freshNode singleOf firstLength firstOf kindOf unitIs diagnostic destinationOf addressedFrom addressedOf judgedRead judgedOf gapOf regionAt kept shut opened doneOf leftOf takenStep followed stepOf stepBy ready receivedBy receivedAt receivedOf writtenBy bufferAt bufferAfter shownOf size offered handed handedAt requests frame held line
+unfolding pick both either allBelow written reservedBit fieldsOf frameRead addresses addressOf positions vehicleAmong vehicleOf positionAt trailerAt soundReception receptionAt withReception soundNode freshNode singleOf firstLength firstOf kindOf unitIs diagnostic destinationOf addressedFrom addressedOf judgedRead judgedOf gapOf regionAt kept shut opened doneOf leftOf takenStep followed stepOf stepBy ownOf receivedBy receivedAt receivedOf writtenBy bufferAt bufferAfter shownOf size offered handed handedAt requests frame held line
 unmixed = refl

@@ -13,11 +13,11 @@ use lib.Seq.{set-getD}
 use Rattle.identifiers.specs.Choice.{pick, both}
 use Rattle.identifiers.specs.Bytes.{written}
 use Rattle.identifiers.specs.Refusals.{refusal}
-use Rattle.identifiers.proofs.LawsChoice.{Holds, by-test, pick-true, pick-false, so, and-is, both-true}
+use Rattle.identifiers.proofs.LawsChoice.{Holds, by-test, pick-true, pick-false, was-taken, so, and-is, both-true}
 use Rattle.identifiers.proofs.LawsBelow.{all-at, all-each}
 use Rattle.identifiers.proofs.LawsBytes.{length-written}
 use Rattle.readings.specs.Positions.{placeOf, trailerAt}
-use Rattle.readings.proofs.LawsPositions.{place-below}
+use Rattle.readings.proofs.LawsPositions.{place-below, not-none}
 use Rattle.readings.specs.declared.position.Position.{Position}
 use Rattle.readings.specs.declared.position.Position.the-variants.{Zero}
 use Rattle.readings.specs.declared.position.Vehicle.{Vehicle}
@@ -34,7 +34,7 @@ use Rattle.receiver.specs.declared.step.Outcome.the-variants.{Refused, T
 use Rattle.receiver.specs.Receptions.{closed, openWith, soundReception}
 use Rattle.receiver.specs.Nodes.{receptionAt, withReception, soundNode, soundInFront, soundBehind}
 use Rattle.receiver.specs.Frames.{judgedOf}
-use Rattle.receiver.specs.Steps.{gapOf, regionAt, kept, shut, opened, doneOf, leftOf, takenStep, followed, stepOf, judgedPlace, stepBy, ready, receivedBy, receivedAt, receivedOf, unmovedAs, movedBy, movedAt, movedOf, writtenBy, bufferAt, bufferAfter}
+use Rattle.receiver.specs.Steps.{gapOf, regionAt, kept, shut, opened, doneOf, leftOf, takenStep, followed, stepOf, judgedPlace, stepBy, ownOf, receivedBy, receivedAt, receivedOf, unmovedAs, movedBy, movedAt, movedOf, writtenBy, bufferAt, bufferAfter}
 use Rattle.receiver.proofs.LawsFrames.{Fair, fair}
 use Rattle.receiver.proofs.LawsNodes.{halves}
 
@@ -203,28 +203,34 @@ module _ (n : Node) (own : Position) (identifier : ℕ) (bytes : List ℕ) (stam
 
 -- ---- the step of a node that keeps its rules, held with a buffer of 1,536 bytes
 -- how it is tested: the two halves of the node's rules, and the buffer's length
-pub ready-tested : (n : Node) (buffer : List ℕ) {front behind : Bool} → front ≡ soundInFront n → behind ≡ soundBehind n → (front && behind) && eqb (length buffer) 1536 ≡ ready n buffer
-unfolding ready
-ready-tested n buffer e f =
-    let fits = eqb (length buffer) 1536 in
-    rw (e, f) (and-is (soundInFront n && soundBehind n) fits ∙ ap (λ (b : Bool). both b fits) (and-is (soundInFront n) (soundBehind n) ∙ sym (halves n)))
+pub rules-tested : (n : Node) (room : ℕ) {front behind : Bool} → front ≡ soundInFront n → behind ≡ soundBehind n → (front && behind) && eqb room 1536 ≡ both (soundNode n) (eqb room 1536)
+rules-tested n room e f =
+    rw (e, f) (and-is (soundInFront n && soundBehind n) (eqb room 1536) ∙ ap (λ (b : Bool). both b (eqb room 1536)) (and-is (soundInFront n) (soundBehind n) ∙ sym (halves n)))
 
-pub ready-facts : (n : Node) (buffer : List ℕ) → ready n buffer ≡ true → (soundNode n ≡ true) × (length buffer ≡ 1536)
-unfolding ready
-ready-facts n buffer e = let each = both-true _ _ e in (each .0, eqb-true _ _ (each .1))
+pub record Ready (n : Node) (room : ℕ) (own : Position) : Type 0 where
+  pub sound : soundNode n ≡ true
+  pub fits : room ≡ 1536
+  pub at : trailerAt (n .own) ≡ At own
 
-pub is-ready : (n : Node) (buffer : List ℕ) → soundNode n ≡ true → length buffer ≡ 1536 → ready n buffer ≡ true
-unfolding ready
-is-ready n buffer s l = sym (so s (sym (eq-eqb _ _ l)))
+pub ready : (n : Node) (room : ℕ) (own : Position) → ownOf n room ≡ At own → Ready n room own
+unfolding ownOf
+ready n room own e =
+    let found = was-taken _ _ _ _ (not-none own) e in
+    let rules = both-true _ _ (found .0) in
+    record { sound = rules .0; fits = eqb-true _ _ (rules .1); at = found .1 }
+
+own-is : (n : Node) (room : ℕ) → soundNode n ≡ true → room ≡ 1536 → ownOf n room ≡ trailerAt (n .own)
+unfolding ownOf
+own-is n room s l = pick-true _ _ (sym (so s (sym (eq-eqb _ _ l))))
 
 module _ (n : Node) (buffer : List ℕ) (own : Position) (s : soundNode n ≡ true) (l : length buffer ≡ 1536) (at : trailerAt (n .own) ≡ At own) (identifier : ℕ) (bytes : List ℕ) (stamp : ℕ) where
   pub received-is : receivedOf n buffer identifier bytes stamp ≡ receivedBy n (judgedOf own (n .unit) identifier bytes) bytes stamp
   unfolding receivedOf receivedAt
-  received-is = pick-true _ _ (is-ready n buffer s l) ∙ ap (receivedAt n identifier bytes stamp) at
+  received-is = ap (receivedAt n identifier bytes stamp) (own-is n _ s l ∙ at)
 
   pub buffer-is : bufferAfter n buffer identifier bytes stamp ≡ writtenBy buffer (stepBy n (judgedOf own (n .unit) identifier bytes) bytes stamp) bytes
   unfolding bufferAfter bufferAt
-  buffer-is = pick-true _ _ (is-ready n buffer s l) ∙ ap (bufferAt n buffer identifier bytes stamp) at
+  buffer-is = ap (bufferAt n buffer identifier bytes stamp) (own-is n _ s l ∙ at)
 
 -- ---- the node with the one reception stored that a frame moves is the node that is received
 module _ (n : Node) where
@@ -234,16 +240,6 @@ module _ (n : Node) where
   unmoved-stays : storedIn (unmovedAs n) ≡ record { node = n; outcome = Refused (refusal 1) }
   unfolding unmovedAs withReception receptionAt
   unmoved-stays = rw (set-getD (n .receptions) 0 closed)
-
-  stored-pick : (t : Bool) (x y : Moved) (u v : Received) → storedIn x ≡ u → storedIn y ≡ v → storedIn (pick t x y) ≡ pick t u v
-  unfolding pick
-  stored-pick true x y u v a b = a
-  stored-pick false x y u v a b = b
-
-  place-pick : (t : Bool) (x y : Moved) → x .place < 6 → y .place < 6 → pick t x y .place < 6
-  unfolding pick
-  place-pick true x y a b = a
-  place-pick false x y a b = b
 
   module _ (identifier : ℕ) (bytes : List ℕ) (stamp : ℕ) where
     stored-at : (v : Vehicle) → storedIn (movedAt n identifier bytes stamp v) ≡ receivedAt n identifier bytes stamp v
@@ -259,8 +255,8 @@ module _ (n : Node) where
     module _ (buffer : List ℕ) {m : Moved} (is : m ≡ movedOf n buffer identifier bytes stamp) where
       pub stored-moved : storedIn m ≡ receivedOf n buffer identifier bytes stamp
       unfolding movedOf receivedOf
-      stored-moved = rw is (stored-pick (ready n buffer) _ _ _ _ (stored-at (trailerAt (n .own))) unmoved-stays)
+      stored-moved = rw is (stored-at (ownOf n (length buffer)))
 
       pub place-moved : m .place < 6
-      unfolding movedOf unmovedAs
-      place-moved = rw is (place-pick (ready n buffer) _ (unmovedAs n) (place-at (trailerAt (n .own))) (omega arith))
+      unfolding movedOf
+      place-moved = rw is (place-at (ownOf n (length buffer)))

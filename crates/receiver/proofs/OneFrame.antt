@@ -28,11 +28,11 @@ use Rattle.receiver.specs.declared.step.Outcome.the-variants.{Refused, O
 use Rattle.receiver.specs.Receptions.{closed}
 use Rattle.receiver.specs.Nodes.{receptionAt, withReception, soundNode}
 use Rattle.receiver.specs.Frames.{judgedOf}
-use Rattle.receiver.specs.Steps.{regionAt, kept, shut, opened, takenStep, followed, stepOf, judgedPlace, stepBy, ready, receivedBy, receivedAt, receivedOf, writtenBy, bufferAt, bufferAfter}
+use Rattle.receiver.specs.Steps.{regionAt, kept, shut, opened, takenStep, followed, stepOf, judgedPlace, stepBy, ownOf, receivedBy, receivedAt, receivedOf, writtenBy, bufferAt, bufferAfter}
 use Rattle.receiver.specs.Shown.{shownOf}
 use Rattle.receiver.specs.Changes.{closes, Does, Changes, toldLength}
 use Rattle.receiver.proofs.LawsFrames.{Fair, fair}
-use Rattle.receiver.proofs.LawsSteps.{length-after}
+use Rattle.receiver.proofs.LawsSteps.{length-after, ready}
 
 -- ---- what each outcome changes
 abbrev By : Reception → ℕ → Step → Type 0
@@ -122,13 +122,8 @@ module _ (n : Node) (buffer : List ℕ) (identifier : ℕ) (bytes : List ℕ) (s
 
   -- of every node, buffer and frame
   pub refusal-leaves : receivedOf n buffer identifier bytes stamp .outcome ≡ Refused why → Leaves n buffer why (receivedOf n buffer identifier bytes stamp .node) (bufferAfter n buffer identifier bytes stamp)
-  unfolding receivedOf bufferAfter pick
-  refusal-leaves = go (ready n buffer)
-    where
-      go : (t : Bool) → pick t (receivedAt n identifier bytes stamp (trailerAt (n .own))) (record { node = n; outcome = Refused (refusal 1) }) .outcome ≡ Refused why
-          → Leaves n buffer why (pick t (receivedAt n identifier bytes stamp (trailerAt (n .own))) (record { node = n; outcome = Refused (refusal 1) }) .node) (pick t (bufferAt n buffer identifier bytes stamp (trailerAt (n .own))) buffer)
-      go true e = at-vehicle (trailerAt (n .own)) e
-      go false e = as-found e
+  unfolding receivedOf bufferAfter
+  refusal-leaves = at-vehicle (ownOf n (length buffer))
 
 -- ---- the shown message has exactly the told length
 abbrev Shows : List ℕ → List ℕ → Step → Type 0
@@ -164,21 +159,15 @@ module _ (bytes buffer : List ℕ) (room : length buffer ≡ 1536) (r : Receptio
   shows-step own unit identifier (judged.Consecutive from number) f = shows-followed from number .holds
 
 module _ (n : Node) (buffer : List ℕ) (identifier : ℕ) (bytes : List ℕ) (stamp : ℕ) (short : (p : ℕ) → receptionAt n p .length ≤ 255) where
-  shown-at : (v : Vehicle) → length buffer ≡ 1536
+  shown-at : (v : Vehicle) → ((own : Position) → v ≡ At own → length buffer ≡ 1536)
       → length (shownOf bytes (bufferAt n buffer identifier bytes stamp v) (receivedAt n identifier bytes stamp v .outcome)) ≡ toldLength (receivedAt n identifier bytes stamp v .outcome)
   unfolding receivedAt receivedBy bufferAt stepBy shownOf
   shown-at NoVehicle room = refl
   shown-at (At own) room =
       let j = judgedOf own (n .unit) identifier bytes in
-      shows-step bytes _ (length-after buffer _ bytes ∙ room) (receptionAt n (judgedPlace j)) (short (judgedPlace j)) stamp own (n .unit) identifier j (fair own (n .unit) identifier bytes j refl)
+      shows-step bytes _ (length-after buffer _ bytes ∙ room own refl) (receptionAt n (judgedPlace j)) (short (judgedPlace j)) stamp own (n .unit) identifier j (fair own (n .unit) identifier bytes j refl)
 
   -- of every node whose lengths are bytes, every buffer and every frame
   pub shown-length : length (shownOf bytes (bufferAfter n buffer identifier bytes stamp) (receivedOf n buffer identifier bytes stamp .outcome)) ≡ toldLength (receivedOf n buffer identifier bytes stamp .outcome)
-  unfolding receivedOf bufferAfter ready shownOf pick
-  shown-length = go (both (soundNode n) (eqb (length buffer) 1536)) refl
-    where
-      go : (t : Bool) → both (soundNode n) (eqb (length buffer) 1536) ≡ t
-          → length (shownOf bytes (pick t (bufferAt n buffer identifier bytes stamp (trailerAt (n .own))) buffer) (pick t (receivedAt n identifier bytes stamp (trailerAt (n .own))) (record { node = n; outcome = Refused (refusal 1) }) .outcome))
-          ≡ toldLength (pick t (receivedAt n identifier bytes stamp (trailerAt (n .own))) (record { node = n; outcome = Refused (refusal 1) }) .outcome)
-      go true e = shown-at (trailerAt (n .own)) (eqb-true _ _ (both-true _ _ e .1))
-      go false e = refl
+  unfolding receivedOf bufferAfter
+  shown-length = shown-at (ownOf n (length buffer)) (λ own e. ready n (length buffer) own e .fits)

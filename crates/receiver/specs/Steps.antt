@@ -90,8 +90,9 @@ judgedPlace (judged.Consecutive from number) = placeOf from
 unfoldable pub stepBy : Node → Judged → List ℕ → ℕ → Step
 stepBy n j bytes stamp = stepOf (receptionAt n (judgedPlace j)) j (length bytes) stamp
 
-unfoldable pub ready : Node → List ℕ → Bool
-ready n buffer = both (soundNode n) (eqb (length buffer) 1536)
+-- 1 "lent state breaks its rules, own position not 1..5, .. or reception buffer not 1,536": otherwise the own position
+unfoldable pub ownOf : Node → ℕ → Vehicle
+ownOf n room = pick (both (soundNode n) (eqb room 1536)) (trailerAt (n .own)) NoVehicle
 
 -- the outcome and the next node: 1 for the state or the buffer, then what the frame does
 unfoldable pub receivedBy : Node → Judged → List ℕ → ℕ → Received
@@ -104,8 +105,7 @@ receivedAt n identifier bytes stamp (At own) = receivedBy n (judgedOf own (n .un
 receivedAt n identifier bytes stamp NoVehicle = record { node = n; outcome = Refused (refusal 1) }
 
 unfoldable pub receivedOf : Node → List ℕ → ℕ → List ℕ → ℕ → Received
-receivedOf n buffer identifier bytes stamp =
-    pick (ready n buffer) (receivedAt n identifier bytes stamp (trailerAt (n .own))) (record { node = n; outcome = Refused (refusal 1) })
+receivedOf n buffer identifier bytes stamp = receivedAt n identifier bytes stamp (ownOf n (length buffer))
 
 -- the one reception that a frame moves, its place, and the outcome; 1 moves none, and the first stands as it is
 unfoldable pub unmovedAs : Node → Moved
@@ -121,8 +121,7 @@ movedAt n identifier bytes stamp (At own) = movedBy n (judgedOf own (n .unit) id
 movedAt n identifier bytes stamp NoVehicle = unmovedAs n
 
 unfoldable pub movedOf : Node → List ℕ → ℕ → List ℕ → ℕ → Moved
-movedOf n buffer identifier bytes stamp =
-    pick (ready n buffer) (movedAt n identifier bytes stamp (trailerAt (n .own))) (unmovedAs n)
+movedOf n buffer identifier bytes stamp = movedAt n identifier bytes stamp (ownOf n (length buffer))
 
 -- "An accepted frame of a train writes its message bytes there, and nothing else is written"
 unfoldable pub writtenBy : List ℕ → Step → List ℕ → List ℕ
@@ -133,7 +132,7 @@ bufferAt n buffer identifier bytes stamp (At own) = writtenBy buffer (stepBy n (
 bufferAt n buffer identifier bytes stamp NoVehicle = buffer
 
 unfoldable pub bufferAfter : Node → List ℕ → ℕ → List ℕ → ℕ → List ℕ
-bufferAfter n buffer identifier bytes stamp = pick (ready n buffer) (bufferAt n buffer identifier bytes stamp (trailerAt (n .own))) buffer
+bufferAfter n buffer identifier bytes stamp = bufferAt n buffer identifier bytes stamp (ownOf n (length buffer))
 
 -- "A first frame accepted says continue control is due"; 11 "overflow control .. is due"
 unfoldable pub dueOf : Outcome → Due
