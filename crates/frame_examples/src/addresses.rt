@@ -2,12 +2,18 @@
 use identifiers::Identifier;
 use identifiers::Target;
 use lines::decimal;
-use lines::hex;
 use lines::newline;
 use lines::refused;
 use lines::say;
+use lines::say_byte;
+use lines::say_number;
 use readings::Position;
 use readings::Vehicle;
+
+fn last_byte(words: &[u8], byte: u8) {
+    say_byte(words, byte);
+    newline();
+}
 
 fn specific(format: u8) {
     let fields = Identifier {
@@ -17,57 +23,44 @@ fn specific(format: u8) {
         specific: 0xC9,
         source: 0xEB,
     };
-    say(b"003 table 1: PF ");
-    decimal(format as usize);
+    say_number(b"003 table 1: PF ", format as usize);
     match fields.target() {
-        Target::Destination(address) => {
-            say(b": destination ");
-            hex(address);
-        }
-        Target::GroupExtension(extension) => {
-            say(b": group extension ");
-            hex(extension);
-        }
+        Target::Destination(address) => last_byte(b": destination ", address),
+        Target::GroupExtension(extension) => last_byte(b": group extension ", extension),
     }
-    newline();
 }
 
-fn neighbour(vehicle: Vehicle) {
+fn neighbour(words: &[u8], vehicle: Vehicle) {
+    say(words);
     match vehicle {
         Vehicle::At(position) => decimal(position.place() as usize),
         Vehicle::NoVehicle => say(b"none"),
     }
 }
 
+fn neighbours(position: Position) {
+    say_number(b": position ", position.place() as usize);
+    neighbour(b", predecessor ", position.predecessor());
+    neighbour(b", successor ", position.successor());
+    last_byte(b", written ", position.address());
+}
+
 fn address(address: u8) {
-    say(b"003 table 3: ");
-    hex(address);
+    say_byte(b"003 table 3: ", address);
     match Position::of_address(address) {
-        Vehicle::At(position) => {
-            say(b": position ");
-            decimal(position.place() as usize);
-            say(b", predecessor ");
-            neighbour(position.predecessor());
-            say(b", successor ");
-            neighbour(position.successor());
-            say(b", written ");
-            hex(position.address());
-        }
-        Vehicle::NoVehicle => say(b": no vehicle"),
+        Vehicle::At(position) => neighbours(position),
+        Vehicle::NoVehicle => say(b": no vehicle\n"),
     }
-    newline();
 }
 
 fn taken(source: u8) {
-    say(b"003 6.2: predecessor ");
-    hex(source);
+    say_byte(b"003 6.2: predecessor ", source);
     say(b": ");
     let told = Position::after(source).told();
     if refused(told.refusal) {
         return;
     }
-    say(b"own position ");
-    decimal(told.own as usize);
+    say_number(b"own position ", told.own as usize);
     newline();
 }
 

@@ -1,11 +1,11 @@
 // The cutter and flow control at the limits of length, number and position: refusal 16.
 use lines::bytes;
-use lines::decimal;
 use lines::front;
 use lines::long_hex;
 use lines::newline;
 use lines::refused;
 use lines::say;
+use lines::say_number;
 use receiver::Control;
 use receiver::FrameCutTold;
 use receiver::cut;
@@ -22,21 +22,19 @@ fn frame(told: FrameCutTold) {
 }
 
 fn positions(from: u8, to: u8) {
-    say(b" from ");
-    decimal(from as usize);
-    say(b" to ");
-    decimal(to as usize);
+    say_number(b" from ", from as usize);
+    say_number(b" to ", to as usize);
     say(b": ");
 }
 
-fn piece(message: &[u8], number: usize, from: u8, to: u8) {
-    say(b"frame ");
-    decimal(number);
-    say(b" of ");
-    decimal(message.len());
+// A frame of a message of bytes AA.
+fn piece(length: usize, number: usize, from: u8, to: u8) {
+    let message = [0xAAu8; 256];
+    say_number(b"frame ", number);
+    say_number(b" of ", length);
     say(b" bytes");
     positions(from, to);
-    frame(cut(message, number, from, to, 5).told());
+    frame(cut(front(&message, length), number, from, to, 5).told());
 }
 
 fn control(name: &[u8], control: Control, from: u8, to: u8) {
@@ -45,48 +43,37 @@ fn control(name: &[u8], control: Control, from: u8, to: u8) {
     frame(flow_control(control, from, to, 5).told());
 }
 
-fn short_messages() {
-    let message = [0xAAu8; 256];
-    piece(&message[..0], 0, 1, 0);
-    piece(&message[..1], 0, 1, 0);
-    piece(&message[..1], 1, 1, 0);
-    piece(&message[..6], 0, 1, 0);
-    piece(&message[..7], 0, 1, 0);
-    piece(&message[..7], 1, 1, 0);
-    piece(&message[..7], 2, 1, 0);
+fn pieces() {
+    piece(0, 0, 1, 0);
+    piece(1, 0, 1, 0);
+    piece(1, 1, 1, 0);
+    piece(6, 0, 1, 0);
+    piece(7, 0, 1, 0);
+    piece(7, 1, 1, 0);
+    piece(7, 2, 1, 0);
+    piece(255, 0, 1, 0);
+    piece(255, 15, 1, 0);
+    piece(255, 16, 1, 0);
+    piece(255, 42, 1, 0);
+    piece(255, 43, 1, 0);
+    piece(256, 0, 1, 0);
+    piece(1, 0, 0, 5);
+    piece(1, 0, 5, 0);
+    piece(1, 0, 0, 6);
+    piece(1, 0, 6, 0);
+    piece(1, 0, 1, 1);
 }
 
-fn long_messages() {
-    let message = [0xAAu8; 256];
-    piece(&message[..255], 0, 1, 0);
-    piece(&message[..255], 15, 1, 0);
-    piece(&message[..255], 16, 1, 0);
-    piece(&message[..255], 42, 1, 0);
-    piece(&message[..255], 43, 1, 0);
-    piece(&message, 0, 1, 0);
-}
-
-fn ends() {
-    let message = [0xAAu8; 256];
-    piece(&message[..1], 0, 0, 5);
-    piece(&message[..1], 0, 5, 0);
-    piece(&message[..1], 0, 0, 6);
-    piece(&message[..1], 0, 6, 0);
-    piece(&message[..1], 0, 1, 1);
-}
-
-fn controls() {
-    control(b"continue", Control::Continue, 1, 0);
-    control(b"overflow", Control::Overflow, 1, 0);
-    control(b"continue", Control::Continue, 5, 4);
-    control(b"continue", Control::Continue, 6, 0);
-    control(b"continue", Control::Continue, 0, 6);
-    control(b"continue", Control::Continue, 1, 1);
+fn continue_control(from: u8, to: u8) {
+    control(b"continue", Control::Continue, from, to);
 }
 
 pub fn run() {
-    short_messages();
-    long_messages();
-    ends();
-    controls();
+    pieces();
+    continue_control(1, 0);
+    control(b"overflow", Control::Overflow, 1, 0);
+    continue_control(5, 4);
+    continue_control(6, 0);
+    continue_control(0, 6);
+    continue_control(1, 1);
 }

@@ -1,20 +1,18 @@
 // The identifier at the limits of its fields: refusals 2, 4 and 16.
+use crate::apart::read;
+use crate::apart::written;
 use identifiers::Identifier;
-use lines::read;
 use lines::say;
-use lines::written;
 
 fn edge(priority: u8, data_page: u8) {
-    written(
-        b"identifier written",
-        Identifier {
-            priority,
-            data_page,
-            format: 0xFF,
-            specific: 0xFF,
-            source: 0xFF,
-        },
-    );
+    say(b"identifier written: ");
+    written(Identifier {
+        priority,
+        data_page,
+        format: 0xFF,
+        specific: 0xFF,
+        source: 0xFF,
+    });
 }
 
 fn apart(number: u32) {

@@ -1,5 +1,6 @@
 // Identifiers, addresses, readings, routes and frames: what the standards print, and both sides of each limit.
 mod addresses;
+mod apart;
 mod channels;
 mod checks;
 mod cuts;

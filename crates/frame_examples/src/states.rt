@@ -4,12 +4,12 @@ ghost use mathlib.Core.List.{[], _∷_};
 ghost use Rattle.receiver.specs.Nodes.{startOf};
 ghost use Rattle.receiver.specs.Steps.{bufferAfter};
 use crate::offers::offer;
-use lines::decimal;
-use lines::hex;
+use crate::offers::presence;
 use lines::newline;
 use lines::refused;
 use lines::say;
-use receiver::Node;
+use lines::say_byte;
+use lines::say_number;
 use receiver::Reception;
 use receiver::fresh;
 use receiver::start;
@@ -17,29 +17,21 @@ use receiver::take_address;
 
 const FUNCTIONAL: u32 = 0x18CDFFEB;
 
-const PRESENCE: [u8; 4] = [0x05, 0x02, 0x3E, 0x00];
-
 fn position(own: u8) {
-    say(b"fresh at position ");
-    decimal(own as usize);
+    say_number(b"fresh at position ", own as usize);
     say(b": ");
     let made = fresh(own, 5);
-    let node = made.node;
     let answer = made.answer;
     if refused(answer.number()) {
         say(b"offered a frame: ");
     }
-    let mut buffer = [0u8; 1536];
-    offer(node, &mut buffer, FUNCTIONAL, &PRESENCE, 0);
+    presence(made.node, FUNCTIONAL);
 }
 
 fn reception(length: u8, taken: u8, last: u32) {
-    say(b"reception of length ");
-    decimal(length as usize);
-    say(b", taken ");
-    decimal(taken as usize);
-    say(b", last ");
-    decimal(last as usize);
+    say_number(b"reception of length ", length as usize);
+    say_number(b", taken ", taken as usize);
+    say_number(b", last ", last as usize);
     say(b": ");
     let mut node = start(5);
     node.receptions[5] = Reception {
@@ -47,17 +39,15 @@ fn reception(length: u8, taken: u8, last: u32) {
         taken,
         last,
     };
-    let mut buffer = [0u8; 1536];
-    offer(node, &mut buffer, FUNCTIONAL, &PRESENCE, 0);
+    presence(node, FUNCTIONAL);
 }
 
 fn lent(buffer: &mut [u8])
     ensures { λ _. ⌜ now (buffer .exit) ≡ bufferAfter (startOf 5) (now (buffer .entry)) 0x18CDFFEB (0x05 ∷ 0x02 ∷ 0x3E ∷ 0x00 ∷ []) 0 ⌝ }
 {
-    say(b"buffer of ");
-    decimal(buffer.len());
+    say_number(b"buffer of ", buffer.len());
     say(b" bytes: ");
-    offer(start(5), buffer, FUNCTIONAL, &PRESENCE, 0);
+    offer(start(5), buffer, FUNCTIONAL, &[0x05, 0x02, 0x3E, 0x00], 0);
 }
 
 fn buffers() {
@@ -69,45 +59,27 @@ fn buffers() {
     lent(&mut long);
 }
 
-// A node at position 2 whose reception of the tractor is open takes an address.
-fn taking(node: Node, source: u8) {
+// A node whose reception of the tractor is open takes an address.
+fn hears(own: u8, source: u8) {
+    say_number(b"position ", own as usize);
+    say_byte(b" hears ", source);
+    say(b": ");
+    let mut node = start(5);
+    node.own = own;
+    node.receptions[0] = Reception {
+        length: 11,
+        taken: 0,
+        last: 0,
+    };
     let changed = take_address(node, source);
     let next = changed.node;
     let answer = changed.answer;
     if refused(answer.number()) {
         return;
     }
-    say(b"own position ");
-    decimal(next.own as usize);
-    say(b", reception 0 of length ");
-    hex(next.receptions[0].length);
+    say_number(b"own position ", next.own as usize);
+    say_byte(b", reception 0 of length ", next.receptions[0].length);
     newline();
-}
-
-fn addresses() {
-    let mut node = start(5);
-    node.own = 2;
-    node.receptions[0] = Reception {
-        length: 11,
-        taken: 0,
-        last: 0,
-    };
-    say(b"position 2 hears C9: ");
-    taking(node, 0xC9);
-    say(b"position 2 hears EB: ");
-    taking(node, 0xEB);
-    say(b"position 2 hears A9: ");
-    taking(node, 0xA9);
-    node.own = 6;
-    say(b"position 6 hears A9: ");
-    taking(node, 0xA9);
-}
-
-fn positions() {
-    position(0);
-    position(1);
-    position(5);
-    position(6);
 }
 
 fn receptions() {
@@ -123,8 +95,14 @@ fn receptions() {
 }
 
 pub fn run() {
-    positions();
+    position(0);
+    position(1);
+    position(5);
+    position(6);
     receptions();
     buffers();
-    addresses();
+    hears(2, 0xC9);
+    hears(2, 0xEB);
+    hears(2, 0xA9);
+    hears(6, 0xA9);
 }

@@ -5,10 +5,11 @@ ghost use Rattle.receiver.specs.Shown.{shownOf};
 ghost use Rattle.receiver.specs.Steps.{receivedOf, bufferAfter};
 use crate::offers::offer;
 use lines::bytes;
-use lines::decimal;
 use lines::front;
-use lines::hex;
+use lines::name;
 use lines::say;
+use lines::say_byte;
+use lines::say_number;
 use receiver::Node;
 use receiver::Outcome;
 use receiver::cut;
@@ -59,8 +60,7 @@ fn hear(
 
 // All frames of a message from the tractor to trailer 1, each 150 ms after the one before, the second byte of each said; the stamps run round.
 fn read_back(message: &[u8]) {
-    say(b"000 10.4.2.2.4, a message of ");
-    decimal(message.len());
+    say_number(b"000 10.4.2.2.4, a message of ", message.len());
     say(b" bytes:");
     let mut buffer = [0u8; 1536];
     let mut heard = Heard {
@@ -72,8 +72,7 @@ fn read_back(message: &[u8]) {
     while k < frame_count(message.len()) {
         let told = cut(message, k, 0, 1, 5).told();
         let data = told.data;
-        say(b" ");
-        hex(data[1]);
+        say_byte(b" ", data[1]);
         let frame = front(&data, told.length as usize);
         let node = heard.node;
         heard = hear(node, &mut buffer, told.identifier, frame, stamp, message);
@@ -82,21 +81,19 @@ fn read_back(message: &[u8]) {
     }
     if heard.unchanged {
         say(b" read back unchanged\n");
-    } else {
-        say(b" not read\n");
+        return;
     }
+    say(b" not read\n");
 }
 
+const LENGTHS: [usize; 9] = [0, 1, 6, 7, 11, 12, 101, 255, 256];
+
 fn lengths(message: &[u8; 256]) {
-    read_back(front(message, 0));
-    read_back(front(message, 1));
-    read_back(front(message, 6));
-    read_back(front(message, 7));
-    read_back(front(message, 11));
-    read_back(front(message, 12));
-    read_back(front(message, 101));
-    read_back(front(message, 255));
-    read_back(message);
+    let mut i = 0;
+    while i < 9 {
+        read_back(front(message, LENGTHS[i]));
+        i += 1;
+    }
 }
 
 // Bytes 0, 1, .. 250 and 0, 1, .. again.
@@ -110,55 +107,45 @@ fn messages() {
     lengths(&message);
 }
 
-// The 11-byte request of document 01, with other data in its second frame, and another stamp.
-fn second(name: &[u8], stamp: u32, data: &[u8], later: u32) {
+// A second frame of the 11-byte request of document 01: its name, the first frame's stamp, its own, its second byte, and how many of its bytes there are.
+struct SecondFrame([u8; 29], u32, u32, u8, usize);
+
+const SECONDS: [SecondFrame; 8] = [
+    SecondFrame(*b"gap 0                        ", 7, 7, 0x21, 8),
+    SecondFrame(*b"000 N_Cr, gap 150            ", 0xFFFFFFF0, 0x86, 0x21, 8),
+    SecondFrame(*b"000 N_Cr, gap 151            ", 0xFFFFFFF0, 0x87, 0x21, 8),
+    SecondFrame(*b"stamp goes back              ", 1, 0, 0x21, 8),
+    SecondFrame(*b"number 2                     ", 0, 0, 0x22, 8),
+    SecondFrame(*b"number 0                     ", 0, 0, 0x20, 8),
+    SecondFrame(*b"seven bytes                  ", 0, 0, 0x21, 7),
+    SecondFrame(*b"number 2 and seven bytes     ", 0, 0, 0x22, 7),
+];
+
+fn titled(column: &[u8; 29], words: &[u8]) {
+    name(column);
+    say(words);
+}
+
+fn second(row: SecondFrame) {
+    let column = row.0;
     let mut buffer = [0u8; 1536];
-    say(name);
-    say(b", first frame: ");
-    let opened = offer(start(5), &mut buffer, PHYSICAL, &FIRST, stamp);
-    say(name);
-    say(b", data");
+    titled(&column, b", first frame: ");
+    let opened = offer(start(5), &mut buffer, PHYSICAL, &FIRST, row.1);
+    let mut next = NEXT;
+    next[1] = row.3;
+    let data = front(&next, row.4);
+    titled(&column, b", data");
     bytes(data);
     say(b": ");
-    offer(opened, &mut buffer, PHYSICAL, data, later);
-}
-
-fn gaps() {
-    second(b"gap 0", 7, &NEXT, 7);
-    second(b"000 N_Cr, gap 150", 0xFFFFFFF0, &NEXT, 0x00000086);
-    second(b"000 N_Cr, gap 151", 0xFFFFFFF0, &NEXT, 0x00000087);
-    second(b"stamp goes back", 1, &NEXT, 0);
-}
-
-fn numbers() {
-    second(b"number 2", 0, b"\x05\x22\xF1\x8C\xF1\x95\xF1\x97", 0);
-    second(b"number 0", 0, b"\x05\x20\xF1\x8C\xF1\x95\xF1\x97", 0);
-    second(b"seven bytes", 0, b"\x05\x21\xF1\x8C\xF1\x95\xF1", 0);
-    second(
-        b"number 2 and seven bytes",
-        0,
-        b"\x05\x22\xF1\x8C\xF1\x95\xF1",
-        0,
-    );
+    offer(opened, &mut buffer, PHYSICAL, data, row.2);
 }
 
 fn seconds() {
-    gaps();
-    numbers();
-}
-
-// A frame of any kind between the two of the 11-byte request.
-fn between(name: &[u8], identifier: u32, data: &[u8]) {
-    let mut buffer = [0u8; 1536];
-    say(name);
-    say(b", before it: ");
-    let opened = offer(start(5), &mut buffer, PHYSICAL, &FIRST, 0);
-    say(name);
-    say(b": ");
-    let then = offer(opened, &mut buffer, identifier, data, 100);
-    say(name);
-    say(b", after it: ");
-    offer(then, &mut buffer, PHYSICAL, &NEXT, 150);
+    let mut i = 0;
+    while i < 8 {
+        second(SECONDS[i]);
+        i += 1;
+    }
 }
 
 // A message of 12 bytes, whose third frame carries one.
@@ -183,27 +170,51 @@ fn third(name: &[u8], data: &[u8]) {
     offer(taken, &mut buffer, PHYSICAL, data, 0);
 }
 
-// Frames of the same vehicle that end the reception, or are passed over.
-fn own_frames_between() {
-    between(b"functional single", 0x18CDFFEB, b"\x05\x02\x3E\x00");
-    between(b"physical single", PHYSICAL, b"\x05\x02\x3E\x00");
-    between(
-        b"over-long first",
-        PHYSICAL,
-        b"\x05\x11\x00\x22\xF1\x90\xF1\x87",
-    );
-    between(b"flow control", PHYSICAL, b"\x05\x30\x00\x00");
+const SINGLE: [u8; 8] = *b"\x05\x02\x3E\x00\0\0\0\0";
+
+const OVER_LONG: [u8; 8] = *b"\x05\x11\x00\x22\xF1\x90\xF1\x87";
+
+const FLOW_CONTROL: [u8; 8] = *b"\x05\x30\x00\x00\0\0\0\0";
+
+const MALFORMED: [u8; 8] = *b"\x05\x40\0\0\0\0\0\0";
+
+const OTHER_UNIT: [u8; 8] = *b"\x06\x02\x3E\x00\0\0\0\0";
+
+const FIRST_OF_7: [u8; 8] = *b"\x05\x10\x07\x22\xF1\x90\xF1\x87";
+
+// A frame between the two of the 11-byte request: its name, its identifier, how many of eight bytes it has, and these.
+struct FrameBetween([u8; 29], u32, usize, [u8; 8]);
+
+// Frames of the same vehicle that end the reception, or are passed over; frames of others.
+const BETWEEN: [FrameBetween; 8] = [
+    FrameBetween(*b"functional single            ", 0x18CDFFEB, 4, SINGLE),
+    FrameBetween(*b"physical single              ", PHYSICAL, 4, SINGLE),
+    FrameBetween(*b"over-long first              ", PHYSICAL, 8, OVER_LONG),
+    FrameBetween(*b"flow control                 ", PHYSICAL, 4, FLOW_CONTROL),
+    FrameBetween(*b"malformed                    ", PHYSICAL, 2, MALFORMED),
+    FrameBetween(*b"other unit                   ", PHYSICAL, 4, OTHER_UNIT),
+    FrameBetween(*b"another vehicle's first      ", 0x18CEC9C1, 8, FIRST_OF_7),
+    FrameBetween(*b"another vehicle's consecutive", 0x18CEC9C1, 8, NEXT),
+];
+
+fn between(row: FrameBetween) {
+    let column = row.0;
+    let data = row.3;
+    let mut buffer = [0u8; 1536];
+    titled(&column, b", before it: ");
+    let opened = offer(start(5), &mut buffer, PHYSICAL, &FIRST, 0);
+    titled(&column, b": ");
+    let then = offer(opened, &mut buffer, row.1, front(&data, row.2), 100);
+    titled(&column, b", after it: ");
+    offer(then, &mut buffer, PHYSICAL, &NEXT, 150);
 }
 
-fn other_frames_between() {
-    between(b"malformed", PHYSICAL, b"\x05\x40");
-    between(b"other unit", PHYSICAL, b"\x06\x02\x3E\x00");
-    between(
-        b"another vehicle's first",
-        0x18CEC9C1,
-        b"\x05\x10\x07\x22\xF1\x90\xF1\x87",
-    );
-    between(b"another vehicle's consecutive", 0x18CEC9C1, &NEXT);
+fn frames_between() {
+    let mut i = 0;
+    while i < 8 {
+        between(BETWEEN[i]);
+        i += 1;
+    }
 }
 
 pub fn run() {
@@ -211,6 +222,5 @@ pub fn run() {
     seconds();
     third(b"two bytes", b"\x05\x22");
     third(b"three bytes", b"\x05\x22\xAA");
-    own_frames_between();
-    other_frames_between();
+    frames_between();
 }

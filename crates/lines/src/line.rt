@@ -66,6 +66,31 @@ pub fn front<'a>(text: &'a [u8], count: usize) -> &'a [u8]
     &text[..count]
 }
 
+// A name of a table, without the blanks that fill its column.
+pub fn name(column: &[u8]) {
+    let mut end = column.len();
+    while 0 < end {
+        let last = end - 1;
+        if column[last] != b' ' {
+            say(front(column, end));
+            return;
+        }
+        end = last;
+    }
+}
+
+// Words, and a number behind them.
+pub fn say_number(words: &[u8], number: usize) {
+    say(words);
+    decimal(number);
+}
+
+// Words, and a byte behind them.
+pub fn say_byte(words: &[u8], byte: u8) {
+    say(words);
+    hex(byte);
+}
+
 pub fn newline() {
     say(b"\n");
 }
@@ -77,8 +102,7 @@ pub fn refused(number: u8) -> bool
     if number == 0 {
         return false;
     }
-    say(b"refused ");
-    decimal(number as usize);
+    say_number(b"refused ", number as usize);
     newline();
     true
 }

@@ -10,7 +10,7 @@ returns : tie.Need-returns
 returns c = sym (ap not (eq-eqb _ _ (c .if1 .taken)))
 
 returns-2 : tie.Need-returns-2
-returns-2 c = sym (ap not (ne-eqb _ _ (c .before .before .before .before .if1 .left)))
+returns-2 c = sym (ap not (ne-eqb _ _ (c .before .before .before .if1 .left)))
 
 pub refused-spec : {M : Type 1} → statement M
 refused-spec =
@@ -18,7 +18,6 @@ refused-spec =
     (tie.spec
     returns
     (λ c. search needs)
-    (λ c κs. search needs)
     (λ c κs. search needs)
     (λ c κs. search needs)
     returns-2)

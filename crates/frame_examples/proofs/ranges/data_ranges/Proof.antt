@@ -1,0 +1,14 @@
+-- `data_ranges` meets its contract: the rows read stand in the table.
+use Prim.Native.Nat.{_-_, _≤_}
+use borrow.Author.Needs.{needs}
+use Rattle.frame_examples.proofs.ranges.data_ranges.Statement.{statement}
+use Rattle.frame_examples.proofs.ranges.data_ranges.Tie as tie
+
+abbrev Inv-loop : tie.InvT-loop
+Inv-loop i₀ i = i ≤ 23
+
+abbrev μ-loop : tie.MeasureT-loop
+μ-loop i₀ i = 23 - i
+
+pub data-ranges-spec : {M : Type 1} → statement M
+data-ranges-spec = tie.close (tie.spec Inv-loop μ-loop (λ c. search needs) (λ c. search needs) (λ c. search needs) (λ c κs. search needs) (λ c. search needs) (λ c. search needs) (λ c. search needs) (λ c. search needs))
