@@ -60,7 +60,7 @@ pub extern "C" fn castanhiu_take_address(node: Node, source: u8) -> NodeChanged
 // As `receiver::receive`, with the outcome told before the reception is stored: the compiled code then goes through its cases once.
 #[no_mangle]
 pub extern "C" fn castanhiu_receive(
-    mut node: Node,
+    node: Node,
     buffer: &mut [u8],
     identifier: u32,
     data: &[u8],
@@ -74,9 +74,10 @@ pub extern "C" fn castanhiu_receive(
     let reception = moved.reception;
     let outcome = moved.outcome;
     let told = outcome.told();
-    node.receptions[p] = reception;
+    let mut next = node;
+    next.receptions[p] = reception;
     FrameReceived {
-        node,
+        node: next,
         outcome: told,
     }
 }

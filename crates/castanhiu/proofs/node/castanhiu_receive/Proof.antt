@@ -23,7 +23,7 @@ unfolding withReception receivedTold
 returns c =
     let at-move-reception = c .before .before .before .before in
     let entry = at-move-reception .before .before .before .before in
-    (rw (c .told .ensures) (ap receivedTold (stored-moved (entry .args .t1) _ _ _ _ (at-move-reception .move-reception .ensures .0))), (at-move-reception .move-reception .ensures .1))
+    (rw (c .told .ensures) (ap receivedTold (stored-moved (entry .args .node) _ _ _ _ (at-move-reception .move-reception .ensures .0))), (at-move-reception .move-reception .ensures .1))
 
 pub castanhiu-receive-spec : {M : Type 1} → statement M
 castanhiu-receive-spec = tie.close (tie.spec (λ c κs. search needs) (λ c κs. search needs) mul-reception element-set-from-reception (λ c. search needs) returns)
