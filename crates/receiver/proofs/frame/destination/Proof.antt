@@ -1,6 +1,5 @@
 -- `destination` meets its contract: by whether the frame is functional.
 use mathlib.Core.Path.{refl}
-use borrow.Author.Needs.{needs}
 use Rattle.identifiers.proofs.LawsChoice.{taken, passed}
 use Rattle.receiver.specs.Frames.{destinationOf}
 use Rattle.receiver.proofs.frame.destination.Statement.{statement}
@@ -15,4 +14,4 @@ unfolding destinationOf
 returns-2 c = passed _ (c .before .if1 .left) (c .address .ensures)
 
 pub destination-spec : {M : Type 1} → statement M
-destination-spec = tie.close (tie.spec returns (λ c κs. search needs) returns-2)
+destination-spec = tie.close (tie.spec returns (λ c κs. tt) returns-2)

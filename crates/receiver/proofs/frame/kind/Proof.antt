@@ -60,10 +60,10 @@ kind-spec =
     returns
     (λ c. search needs)
     (λ c. search needs)
-    (λ c κs. search needs)
+    (λ c κs. tt)
     returns-2
     returns-3
-    (λ c κs. search needs)
+    (λ c κs. tt)
     returns-4
     returns-5
     returns-6

@@ -1,5 +1,4 @@
 -- `start` meets its contract: position 1.
-use borrow.Author.Needs.{needs}
 use Rattle.receiver.specs.Nodes.{startOf}
 use Rattle.receiver.proofs.node.start.Statement.{statement}
 use Rattle.receiver.proofs.node.start.Tie as tie
@@ -9,4 +8,4 @@ unfolding startOf
 returns c = (c .all-closed .ensures)
 
 pub start-spec : {M : Type 1} → statement M
-start-spec = tie.close (tie.spec (λ c κs. search needs) returns)
+start-spec = tie.close (tie.spec (λ c κs. tt) returns)

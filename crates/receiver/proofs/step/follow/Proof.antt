@@ -71,20 +71,20 @@ follow-spec =
     (tie.spec
     (λ c. search needs)
     (λ c. search needs)
-    (λ c κs. search needs)
+    (λ c κs. tt)
     returns
     (λ c. search needs)
     (λ c. search needs)
     sub-at-most-six
-    (λ c κs. search needs)
+    (λ c κs. tt)
     (λ c. search needs)
-    (λ c κs. search needs)
+    (λ c κs. tt)
     returns-2
     (λ c. search needs)
-    (λ c κs. search needs)
+    (λ c κs. tt)
     returns-3
-    (λ c κs. search needs)
-    (λ c κs. search needs)
+    (λ c κs. tt)
+    (λ c κs. tt)
     returns-4
     take-requires
     (λ c. search needs)

@@ -10,4 +10,4 @@ returns : tie.Need-returns
 returns c = ((c .place .ensures), subst (λ (n : ℕ). n < 6) (sym (c .place .ensures)) (place-below (c .before .args .position)))
 
 pub place-spec : {M : Type 1} → statement M
-place-spec = tie.close (tie.spec (λ c κs. search needs) (λ c. search needs) returns)
+place-spec = tie.close (tie.spec (λ c κs. tt) (λ c. search needs) returns)
