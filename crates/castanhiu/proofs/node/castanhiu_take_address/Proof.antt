@@ -1,6 +1,5 @@
 -- `castanhiu_take_address` meets its contract: what the layer's function answers, told by its own definition.
 use mathlib.Core.Path.{ap, _∙_}
-use borrow.Author.Needs.{needs}
 use Rattle.castanhiu.specs.Numbers.{changedTold}
 use Rattle.castanhiu.proofs.node.castanhiu_take_address.Statement.{statement}
 use Rattle.castanhiu.proofs.node.castanhiu_take_address.Tie as tie
@@ -9,4 +8,4 @@ returns : tie.Need-returns
 returns c = (c .changed-told .ensures) ∙ ap changedTold (c .before .take-address .ensures)
 
 pub castanhiu-take-address-spec : {M : Type 1} → statement M
-castanhiu-take-address-spec = tie.close (tie.spec (λ c κs. search needs) (λ c κs. search needs) returns)
+castanhiu-take-address-spec = tie.close (tie.spec (λ c κs. tt) (λ c κs. tt) returns)

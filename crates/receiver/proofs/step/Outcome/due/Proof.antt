@@ -26,7 +26,7 @@ unfolding dueOf
 due-spec =
     tie.close
     (tie.spec
-    (λ c. search needs)
+    (λ c. c .match .keys1)
     (λ c. search needs)
     (λ c. ap dueOf (sym (c .before .self .given .1)))
     (λ c. ap dueOf (sym (c .before .self2 .given .1)))
