@@ -10,16 +10,18 @@ use lib.ListN.{length, set}
 use Rattle.identifiers.specs.Choice.{pick}
 use Rattle.identifiers.specs.Bytes.{written}
 use Rattle.identifiers.specs.Refusals.{refusal}
-use Rattle.identifiers.proofs.LawsChoice.{pick-true, pick-false, was-passed, either-false}
+use Rattle.identifiers.proofs.LawsChoice.{taken, passed, pick-true, pick-false, was-passed, either-false}
 use Rattle.server.specs.Places.{placeOf, heldAmong}
 use Rattle.server.specs.Trailer.{soundRecord, statusWithin}
 use Rattle.server.specs.Faults.{countListed, twoBytes, reportOf}
 use Rattle.server.specs.DataIdentifiers.{answersOf}
 use Rattle.server.specs.Requests.{serviceOf, subFunctionOf, maskOf, knownService, formOf, silentOn}
-use Rattle.server.specs.Server.{faultsOf, contentOf19, contentOf22, contentFields, negativeFields, negativeOf, negativeBytes, positiveFields, positiveOf, statusesAfter, withStatuses, wrongLengths, outcomeOf}
-use Rattle.server.specs.Status.{settingOf}
+use Rattle.server.specs.Server.{faultsOf, contentOf19, contentOf22, contentFields, negativeFields, negativeOf, negativeBytes, positiveFields, positiveOf, statusesAfter, withStatuses, wrongLengths, Outcome, outcomeOf}
+use Rattle.server.specs.Status.{Setting, settingOf}
 use Rattle.server.specs.declared.trailer.TrailerRecord.{TrailerRecord}
+use Rattle.server.specs.declared.serving.Answer.{Answer}
 use Rattle.server.specs.declared.serving.Answer.the-variants.{Refused, Silent, Sent}
+use Rattle.server.specs.declared.status.StatusAnswer.{StatusAnswer}
 use Rattle.server.specs.declared.status.StatusAnswer.the-variants as status
 use Rattle.server.proofs.LawsFaults.{length-report}
 
@@ -97,7 +99,35 @@ right-lengths n m e =
     let z : n ≡ 0 → ⊥ = eqb-false _ _ (b .0) in
     (omega (arith, z), (ltb-false _ _ (b .1), eqb-true _ _ (not-false _ (a .1))))
 
+-- ---- the bytes of a positive answer, by the service that was read
+module _ (codes statuses : List ℕ) (count availability : ℕ) (identifiers lengths bytes : List ℕ) (held : ℕ) (request : List ℕ) {service : ℕ} (read : service ≡ serviceOf request) where
+  is : (n : ℕ) → service ≡ n → eqb (serviceOf request) n ≡ true
+  is n e = eq-eqb _ n (sym read ∙ e)
+
+  is-not : (n : ℕ) → (service ≡ n → ⊥) → eqb (serviceOf request) n ≡ false
+  is-not n h = ne-eqb _ n (λ q. h (read ∙ q))
+
+  pub positive-14 : service ≡ 0x14 → 0x54 ∷ [] ≡ positiveFields codes statuses count availability identifiers lengths bytes held request
+  unfolding positiveFields
+  positive-14 a = taken _ (is 0x14 a) refl
+
+  pub positive-19 : (service ≡ 0x14 → ⊥) → service ≡ 0x19 → {sub : ℕ} → sub ≡ subFunctionOf request → 0x59 ∷ sub ∷ availability ∷ faultsOf codes statuses count request ≡ positiveFields codes statuses count availability identifiers lengths bytes held request
+  unfolding positiveFields
+  positive-19 a b e = passed _ (is-not 0x14 a) (taken _ (is 0x19 b) (ap (λ (s : ℕ). 0x59 ∷ s ∷ availability ∷ faultsOf codes statuses count request) e))
+
+  pub positive-22 : (service ≡ 0x14 → ⊥) → (service ≡ 0x19 → ⊥) → service ≡ 0x22 → 0x62 ∷ answersOf identifiers lengths bytes held request ≡ positiveFields codes statuses count availability identifiers lengths bytes held request
+  unfolding positiveFields
+  positive-22 a b d = passed _ (is-not 0x14 a) (passed _ (is-not 0x19 b) (taken _ (is 0x22 d) refl))
+
+  pub positive-3E : (service ≡ 0x14 → ⊥) → (service ≡ 0x19 → ⊥) → (service ≡ 0x22 → ⊥) → 0x7E ∷ 0x00 ∷ [] ≡ positiveFields codes statuses count availability identifiers lengths bytes held request
+  unfolding positiveFields
+  positive-3E a b d = passed _ (is-not 0x14 a) (passed _ (is-not 0x19 b) (passed _ (is-not 0x22 d) refl))
+
 -- ---- one law for each rung of a request's outcome
+-- what stands as the rung says stands as the outcome says
+pub ends : {o p : Outcome} {s z : List ℕ} {a : Answer} → o ≡ p → (s ≡ p .after .statuses) × ((a ≡ p .answer) × (z ≡ p .response)) → (s ≡ o .after .statuses) × ((a ≡ o .answer) × (z ≡ o .response))
+ends e h = rw e h
+
 module _ (t : TrailerRecord) (request : List ℕ) (functional : Bool) (response : List ℕ) where
   pub outcome-1 : soundRecord t ≡ false → outcomeOf t request functional response ≡ record { after = t; answer = Refused (refusal 1); response = response }
   unfolding outcomeOf
@@ -127,6 +157,9 @@ module _ (t : TrailerRecord) (request : List ℕ) (functional : Bool) (response 
     outcome-positive c d = pick-false _ _ (ap not a) ∙ pick-false _ _ b ∙ pick-false _ _ c ∙ pick-false _ _ (ap not (eq-eqb _ _ d))
 
 -- ---- and of a setting
+pub set-ends : {o p : Setting} {t : TrailerRecord} {a : StatusAnswer} → o ≡ p → (t ≡ p .after) × (a ≡ p .answer) → (t ≡ o .after) × (a ≡ o .answer)
+set-ends e h = rw e h
+
 module _ (t : TrailerRecord) (code st : ℕ) where
   pub setting-1 : soundRecord t ≡ false → settingOf t code st ≡ record { after = t; answer = status.Refused (refusal 1) }
   unfolding settingOf

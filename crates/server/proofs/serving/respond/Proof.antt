@@ -1,13 +1,13 @@
 -- `respond` meets its contract: each return stands at its rung, and what is written is what the rung says.
-use mathlib.Core.Path.{sym, ap, _∙_}
+use mathlib.Core.Path.{refl, sym, ap, _∙_}
 use Prim.Native.Nat.{ℕ}
 use borrow.Author.Tests.{not-true, not-false}
 use borrow.Author.Needs.{needs}
 use Rattle.identifiers.specs.Bytes.{written}
 use Rattle.server.specs.Requests.{serviceOf, silentOn}
-use Rattle.server.specs.Server.{negativeOf, negativeBytes, positiveOf, withStatuses, Outcome, recordOf}
+use Rattle.server.specs.Server.{negativeOf, negativeBytes, positiveOf, withStatuses, recordOf}
 use Rattle.server.proofs.LawsTrailer.{sound-has}
-use Rattle.server.proofs.LawsServer.{positive-form, right-lengths, outcome-1, outcome-17, outcome-silent, outcome-negative, outcome-positive}
+use Rattle.server.proofs.LawsServer.{positive-form, right-lengths, ends, outcome-1, outcome-17, outcome-silent, outcome-negative, outcome-positive}
 use Rattle.server.specs.declared.serving.Answer.the-variants.{Sent}
 use native.Mathlib.Nat.{zero-add}
 use Rattle.server.proofs.serving.respond.Statement.{statement}
@@ -18,7 +18,7 @@ returns c =
     let entry = c .before .before .before .before in
     let t = recordOf ((entry .args .codes) .now) (entry .args .t3) (entry .args .count) (entry .args .availability) ((entry .args .identifiers) .now) ((entry .args .lengths) .now) ((entry .args .bytes) .now) (entry .args .held) in
     let law = outcome-1 t ((entry .args .request) .now) (entry .args .functional) ((entry .args .response) .now) (sym (entry .pre) ∙ not-true _ (c .before .if1 .taken)) in
-    ((c .leaves .ensures) .0 ∙ sym (ap (λ (o : Outcome). o .after .statuses) law), ((c .leaves .ensures) .1 ∙ sym (ap (λ (o : Outcome). o .answer) law), sym (ap (λ (o : Outcome). o .response) law)))
+    ends law ((c .leaves .ensures) .0, ((c .leaves .ensures) .1, refl))
 
 returns-2 : tie.Need-returns-2
 returns-2 c =
@@ -27,7 +27,7 @@ returns-2 c =
     let kept = sym (entry .pre) ∙ not-false _ (at-if1 .if1 .left) in
     let t = recordOf ((entry .args .codes) .now) (entry .args .t3) (entry .args .count) (entry .args .availability) ((entry .args .identifiers) .now) ((entry .args .lengths) .now) ((entry .args .bytes) .now) (entry .args .held) in
     let law = outcome-17 t ((entry .args .request) .now) (entry .args .functional) ((entry .args .response) .now) kept (sym (c .before .before .wrong-lengths .ensures) ∙ (c .before .if2 .taken)) in
-    ((c .leaves2 .ensures) .0 ∙ sym (ap (λ (o : Outcome). o .after .statuses) law), ((c .leaves2 .ensures) .1 ∙ sym (ap (λ (o : Outcome). o .answer) law), sym (ap (λ (o : Outcome). o .response) law)))
+    ends law ((c .leaves2 .ensures) .0, ((c .leaves2 .ensures) .1, refl))
 
 negative-requires : tie.Need-negative-requires
 negative-requires c κs =
@@ -49,7 +49,7 @@ returns-3 c =
     let kept = sym (entry .pre) ∙ not-false _ (at-if1 .if1 .left) in
     let t = recordOf ((entry .args .codes) .now) (entry .args .t3) (entry .args .count) (entry .args .availability) ((entry .args .identifiers) .now) ((entry .args .lengths) .now) ((entry .args .bytes) .now) (entry .args .held) in
     let law = outcome-silent t ((entry .args .request) .now) (entry .args .functional) ((entry .args .response) .now) kept (sym (at-wrong-lengths .wrong-lengths .ensures) ∙ (at-if2 .if2 .left)) (ap (silentOn ((entry .args .request) .now) (entry .args .functional)) (sym (at-negative .negative .ensures)) ∙ sym (c .before .before .silent .ensures) ∙ (c .before .if3 .taken)) in
-    ((c .leaves3 .ensures) .0 ∙ sym (ap (λ (o : Outcome). o .after .statuses) law), ((c .leaves3 .ensures) .1 ∙ sym (ap (λ (o : Outcome). o .answer) law), sym (ap (λ (o : Outcome). o .response) law)))
+    ends law ((c .leaves3 .ensures) .0, ((c .leaves3 .ensures) .1, refl))
 
 put-negative-requires : tie.Need-put-negative-requires
 put-negative-requires c κs =
@@ -74,13 +74,8 @@ returns-4 c =
     let t = recordOf ((entry .args .codes) .now) (entry .args .t3) (entry .args .count) (entry .args .availability) ((entry .args .identifiers) .now) ((entry .args .lengths) .now) ((entry .args .bytes) .now) (entry .args .held) in
     let law = outcome-negative t ((entry .args .request) .now) (entry .args .functional) ((entry .args .response) .now) kept (sym (at-wrong-lengths .wrong-lengths .ensures) ∙ (at-if2 .if2 .left)) (ap (silentOn ((entry .args .request) .now) (entry .args .functional)) (sym (at-negative .negative .ensures)) ∙ sym (at-silent .silent .ensures) ∙ (at-if3 .if3 .left)) (λ q. (at-if4 .if4 .taken) ((at-negative .negative .ensures) ∙ q)) in
     let put = (at-put-negative .put-negative .ensures) in
-    let bytes = ap (λ (s : ℕ). negativeBytes s (at-negative .negative .result)) (at-service .service .ensures) ∙ ap (negativeBytes (serviceOf ((entry .args .request) .now))) (at-negative .negative .ensures) in (
-      (c .leaves4 .ensures) .0 ∙ sym (ap (λ (o : Outcome). o .after .statuses) law),
-      (
-        (c .leaves4 .ensures) .1 ∙ ap Sent (put .ends) ∙ sym (ap (λ (o : Outcome). o .answer) law),
-        put .holds ∙ ap (written ((entry .args .response) .now) 0) bytes ∙ sym (ap (λ (o : Outcome). o .response) law),
-      ),
-    )
+    let bytes = ap (λ (s : ℕ). negativeBytes s (at-negative .negative .result)) (at-service .service .ensures) ∙ ap (negativeBytes (serviceOf ((entry .args .request) .now))) (at-negative .negative .ensures) in
+    ends law ((c .leaves4 .ensures) .0, ((c .leaves4 .ensures) .1 ∙ ap Sent (put .ends), put .holds ∙ ap (written ((entry .args .response) .now) 0) bytes))
 
 put-positive-requires : tie.Need-put-positive-requires
 put-positive-requires c κs =
@@ -118,13 +113,8 @@ returns-5 c =
     let kept = sym (entry .pre) ∙ not-false _ (at-if1 .if1 .left) in
     let t = recordOf ((entry .args .codes) .now) (entry .args .t3) (entry .args .count) (entry .args .availability) ((entry .args .identifiers) .now) ((entry .args .lengths) .now) ((entry .args .bytes) .now) (entry .args .held) in
     let law = outcome-positive t ((entry .args .request) .now) (entry .args .functional) ((entry .args .response) .now) kept (sym (at-wrong-lengths .wrong-lengths .ensures) ∙ (at-if2 .if2 .left)) (ap (silentOn ((entry .args .request) .now) (entry .args .functional)) (sym (at-negative .negative .ensures)) ∙ sym (at-silent .silent .ensures) ∙ (at-if3 .if3 .left)) (sym (at-negative .negative .ensures) ∙ (at-if4 .if4 .left)) in
-    let put = (at-put-positive .put-positive .ensures) in (
-      (c .leaves5 .ensures) .0 ∙ (c .before .statuses-after .ensures) ∙ sym (ap (λ (o : Outcome). o .after .statuses) law),
-      (
-        (c .leaves5 .ensures) .1 ∙ ap Sent (put .ends ∙ zero-add _) ∙ sym (ap (λ (o : Outcome). o .answer) law),
-        put .holds ∙ sym (ap (λ (o : Outcome). o .response) law),
-      ),
-    )
+    let put = (at-put-positive .put-positive .ensures) in
+    ends law ((c .leaves5 .ensures) .0 ∙ (c .before .statuses-after .ensures), ((c .leaves5 .ensures) .1 ∙ ap Sent (put .ends ∙ zero-add _), put .holds))
 
 pub respond-spec : {M : Type 1} → statement M
 respond-spec = tie.close (tie.spec

@@ -1,5 +1,5 @@
 -- `set_status` meets its contract: each return stands at its rung.
-use mathlib.Core.Path.{sym, ap, _∙_}
+use mathlib.Core.Path.{refl, sym, ap, _∙_}
 use Prim.Native.Nat.{ℕ}
 use native.Mathlib.Omega.{arith}
 use borrow.Author.Tests.{lt-ltb, le-ltb, not-true, not-false}
@@ -11,8 +11,7 @@ use Rattle.server.specs.Places.{heldAmong}
 use Rattle.server.specs.Trailer.{soundRecord}
 use Rattle.server.specs.Server.{withStatuses}
 use Rattle.server.proofs.LawsTrailer.{sound-has}
-use Rattle.server.proofs.LawsServer.{setting-1, setting-18, setting-19, setting-set}
-use Rattle.server.specs.Status.{Setting}
+use Rattle.server.proofs.LawsServer.{set-ends, setting-1, setting-18, setting-19, setting-set}
 use Rattle.server.proofs.status.set_status.Statement.{statement}
 use Rattle.server.proofs.status.set_status.Tie as tie
 
@@ -21,7 +20,7 @@ unfolding soundRecord
 returns c =
     let entry = c .before .before .before .before .before .before .before in
     let law = setting-1 (entry .args .t1) (entry .args .code) (entry .args .status) (sym (c .before .sound .ensures) ∙ not-true _ (c .if1 .taken)) in
-    (sym (ap (λ (s : Setting). s .after) law), sym (ap (λ (s : Setting). s .answer) law))
+    set-ends law (refl, refl)
 
 place-requires : tie.Need-place-requires
 unfolding soundRecord
@@ -37,7 +36,7 @@ returns-2 c =
     let at-sound = at-if1 .before in
     let entry = at-sound .before .before .before .before .before .before in
     let law = setting-18 (entry .args .t1) (entry .args .code) (entry .args .status) (sym (at-sound .sound .ensures) ∙ not-false _ (at-if1 .if1 .left)) (ap (λ (i : ℕ). ltb i ((entry .args .t1) .count)) (sym (c .before .place .ensures)) ∙ le-ltb _ _ (c .if2 .taken)) in
-    (sym (ap (λ (s : Setting). s .after) law), sym (ap (λ (s : Setting). s .answer) law))
+    set-ends law (refl, refl)
 
 returns-3 : tie.Need-returns-3
 unfolding soundRecord heldAmong
@@ -47,7 +46,7 @@ returns-3 c =
     let at-sound = at-if1 .before in
     let entry = at-sound .before .before .before .before .before .before in
     let law = setting-19 (entry .args .t1) (entry .args .code) (entry .args .status) (sym (at-sound .sound .ensures) ∙ not-false _ (at-if1 .if1 .left)) (ap (λ (i : ℕ). ltb i ((entry .args .t1) .count)) (sym (at-place .place .ensures)) ∙ lt-ltb _ _ (c .before .before .if2 .left)) (sym (c .before .status-within .ensures) ∙ not-true _ (c .if3 .taken)) in
-    (sym (ap (λ (s : Setting). s .after) law), sym (ap (λ (s : Setting). s .answer) law))
+    set-ends law (refl, refl)
 
 element-write-after : tie.Need-element-write-after
 unfolding soundRecord
@@ -65,7 +64,7 @@ returns-4 c =
     let at-sound = at-if1 .before in
     let entry = at-sound .before .before .before .before .before .before in
     let law = setting-set (entry .args .t1) (entry .args .code) (entry .args .status) (sym (at-sound .sound .ensures) ∙ not-false _ (at-if1 .if1 .left)) (ap (λ (i : ℕ). ltb i ((entry .args .t1) .count)) (sym (at-place .place .ensures)) ∙ lt-ltb _ _ (c .before .before .if2 .left)) (sym (c .before .status-within .ensures) ∙ not-false _ (c .if3 .left)) in
-    (ap (λ (i : ℕ). withStatuses (entry .args .t1) (set ((entry .args .t1) .statuses) i (entry .args .status))) (at-place .place .ensures) ∙ sym (ap (λ (s : Setting). s .after) law), sym (ap (λ (s : Setting). s .answer) law))
+    set-ends law (ap (λ (i : ℕ). withStatuses (entry .args .t1) (set ((entry .args .t1) .statuses) i (entry .args .status))) (at-place .place .ensures), refl)
 
 pub set-status-spec : {M : Type 1} → statement M
 set-status-spec = tie.close (tie.spec
