@@ -45,13 +45,13 @@ pub by-high-byte-spec : {M : Type 1} → statement M
 by-high-byte-spec =
     tie.close
     (tie.spec
-    (λ c κs. search needs)
+    (λ c κs. tt)
     (λ c κs. search needs)
     returns
-    (λ c κs. search needs)
+    (λ c κs. tt)
     returns-2
-    (λ c κs. search needs)
+    (λ c κs. tt)
     returns-3
-    (λ c κs. search needs)
+    (λ c κs. tt)
     returns-4
     returns-5)

@@ -1,6 +1,5 @@
 -- `own_position` meets its contract: 5 with a successor is none, and else the trailer's position.
 use mathlib.Core.Path.{refl, sym, _∙_}
-use borrow.Author.Needs.{needs}
 use Rattle.identifiers.proofs.LawsChoice.{taken, passed, and-is}
 use Rattle.readings.specs.Routes.{ownAt}
 use Rattle.readings.proofs.routing.own_position.Statement.{statement}
@@ -15,4 +14,4 @@ unfolding ownAt
 returns-2 c = passed _ (sym (and-is _ _) ∙ c .before .if1 .left) (c .trailer .ensures)
 
 pub own-position-spec : {M : Type 1} → statement M
-own-position-spec = tie.close (tie.spec returns (λ c κs. search needs) returns-2)
+own-position-spec = tie.close (tie.spec returns (λ c κs. tt) returns-2)

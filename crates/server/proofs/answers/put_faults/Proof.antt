@@ -55,8 +55,8 @@ returns-2 c =
 
 pub put-faults-spec : {M : Type 1} → statement M
 put-faults-spec = tie.close (tie.spec
-    (λ c κs. search needs)
-    (λ c κs. search needs)
+    (λ c κs. tt)
+    (λ c κs. tt)
     (λ c κs. search needs)
     (λ c. search needs)
     (λ c. search needs)

@@ -49,12 +49,12 @@ returns-4 c =
 
 pub put-positive-spec : {M : Type 1} → statement M
 put-positive-spec = tie.close (tie.spec
-    (λ c κs. search needs)
+    (λ c κs. tt)
     (λ c. search needs)
     (λ c. search needs)
     returns
     (λ c. search needs)
-    (λ c κs. search needs)
+    (λ c κs. tt)
     (λ c. search needs)
     (λ c. search needs)
     put-faults-requires

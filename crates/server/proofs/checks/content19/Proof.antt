@@ -58,9 +58,9 @@ returns-3 c =
 
 pub content19-spec : {M : Type 1} → statement M
 content19-spec = tie.close (tie.spec
-    (λ c κs. search needs)
+    (λ c κs. tt)
     returns
-    (λ c κs. search needs)
+    (λ c κs. tt)
     (λ c κs. search needs)
     mul-if2
     add-if2

@@ -54,9 +54,9 @@ returns-5 c =
 
 pub negative-spec : {M : Type 1} → statement M
 negative-spec = tie.close (tie.spec
-    (λ c κs. search needs)
+    (λ c κs. tt)
     returns
-    (λ c κs. search needs)
+    (λ c κs. tt)
     content14-requires
     returns-2
     (λ c κs. search needs)

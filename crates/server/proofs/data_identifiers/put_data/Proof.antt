@@ -42,7 +42,7 @@ put-data-spec = tie.close (tie.spec
     Inv-loop
     μ-loop
     (λ c. search needs)
-    (λ c κs. search needs)
+    (λ c κs. tt)
     (λ c. search needs)
     loop-holds
     (λ c. search needs)

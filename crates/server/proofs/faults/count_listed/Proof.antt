@@ -37,7 +37,7 @@ count-listed-spec = tie.close (tie.spec
     μ-loop
     loop-holds
     (λ c. search needs)
-    (λ c κs. search needs)
+    (λ c κs. tt)
     (λ c. search needs)
     (λ c. search needs)
     (λ c. search needs)

@@ -51,7 +51,7 @@ put-report-spec = tie.close (tie.spec
     μ-loop
     loop-holds
     (λ c. search needs)
-    (λ c κs. search needs)
+    (λ c κs. tt)
     (λ c. search needs)
     (λ c. search needs)
     put-code-and-status-requires

@@ -2,7 +2,6 @@
 use mathlib.Core.Path.{_≡_, refl, sym, ap, _∙_}
 use mathlib.Core.Bool.{Bool, true, false, not}
 use Prim.Native.Nat.{ℕ}
-use borrow.Author.Needs.{needs}
 use lib.Dec.{ltb}
 use lib.ListN.{length}
 use Rattle.identifiers.specs.Choice.{both}
@@ -81,15 +80,15 @@ returns-5 c =
 
 pub form-spec : {M : Type 1} → statement M
 form-spec = tie.close (tie.spec
-    (λ c κs. search needs)
-    (λ c κs. search needs)
+    (λ c κs. tt)
+    (λ c κs. tt)
     returns
-    (λ c κs. search needs)
+    (λ c κs. tt)
     returns-2
-    (λ c κs. search needs)
-    (λ c κs. search needs)
-    (λ c κs. search needs)
+    (λ c κs. tt)
+    (λ c κs. tt)
+    (λ c κs. tt)
     returns-3
-    (λ c κs. search needs)
+    (λ c κs. tt)
     returns-4
     returns-5)

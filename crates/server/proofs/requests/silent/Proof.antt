@@ -1,7 +1,6 @@
 -- `silent` meets its contract: by the code, positive or negative.
 use mathlib.Core.Path.{ap, _∙_}
 use borrow.Author.Tests.{eq-eqb, ne-eqb}
-use borrow.Author.Needs.{needs}
 use Rattle.identifiers.specs.Choice.{both}
 use Rattle.identifiers.proofs.LawsChoice.{taken, passed, and-is}
 use Rattle.server.specs.Requests.{silentOn}
@@ -20,7 +19,7 @@ returns-2 c =
 
 pub silent-spec : {M : Type 1} → statement M
 silent-spec = tie.close (tie.spec
-    (λ c κs. search needs)
+    (λ c κs. tt)
     returns
-    (λ c κs. search needs)
+    (λ c κs. tt)
     returns-2)

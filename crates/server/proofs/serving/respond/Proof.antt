@@ -118,22 +118,22 @@ returns-5 c =
 
 pub respond-spec : {M : Type 1} → statement M
 respond-spec = tie.close (tie.spec
-    (λ c κs. search needs)
+    (λ c κs. tt)
     returns
-    (λ c κs. search needs)
-    (λ c κs. search needs)
+    (λ c κs. tt)
+    (λ c κs. tt)
     returns-2
     negative-requires
-    (λ c κs. search needs)
-    (λ c κs. search needs)
+    (λ c κs. tt)
+    (λ c κs. tt)
     returns-3
-    (λ c κs. search needs)
+    (λ c κs. tt)
     put-negative-requires
-    (λ c κs. search needs)
+    (λ c κs. tt)
     (λ c. search needs)
     returns-4
     put-positive-requires
     statuses-after-requires
-    (λ c κs. search needs)
+    (λ c κs. tt)
     (λ c. search needs)
     returns-5)

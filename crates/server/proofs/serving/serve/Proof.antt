@@ -21,7 +21,7 @@ returns c =
 
 pub serve-spec : {M : Type 1} → statement M
 serve-spec = tie.close (tie.spec
-    (λ c κs. search needs)
+    (λ c κs. tt)
     (λ c. search needs)
     (λ c. search needs)
     respond-requires

@@ -30,7 +30,7 @@ returns-2 c = passed _ (ap (λ (x : ℕ). eqb x 0x14) (sym (c .before .service .
 
 pub statuses-after-spec : {M : Type 1} → statement M
 statuses-after-spec = tie.close (tie.spec
-    (λ c κs. search needs)
+    (λ c κs. tt)
     group-requires
     (λ c κs. search needs)
     returns

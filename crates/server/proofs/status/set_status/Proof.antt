@@ -68,12 +68,12 @@ returns-4 c =
 
 pub set-status-spec : {M : Type 1} → statement M
 set-status-spec = tie.close (tie.spec
-    (λ c κs. search needs)
+    (λ c κs. tt)
     returns
     (λ c. search needs)
     place-requires
     returns-2
-    (λ c κs. search needs)
+    (λ c κs. tt)
     returns-3
     element-write-after
     returns-4)

@@ -1,6 +1,5 @@
 -- `check` meets its contract: by the one test.
 use mathlib.Core.Path.{refl, sym, _∙_}
-use borrow.Author.Needs.{needs}
 use Rattle.identifiers.proofs.LawsChoice.{taken, passed}
 use Rattle.server.specs.Trailer.{soundRecord, checkedAs}
 use Rattle.server.proofs.trailer.check.Statement.{statement}
@@ -16,6 +15,6 @@ returns-2 c = passed _ (sym (c .before .sound .ensures) ∙ (c .if1 .left)) refl
 
 pub check-spec : {M : Type 1} → statement M
 check-spec = tie.close (tie.spec
-    (λ c κs. search needs)
+    (λ c κs. tt)
     returns
     returns-2)

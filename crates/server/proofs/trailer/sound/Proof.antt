@@ -29,7 +29,7 @@ pub sound-spec : {M : Type 1} → statement M
 sound-spec = tie.close (tie.spec
     returns
     returns-2
-    (λ c κs. search needs)
+    (λ c κs. tt)
     (λ c κs. search needs)
     (λ c κs. search needs)
     (λ c κs. search needs)

@@ -34,7 +34,7 @@ statuses-within-spec = tie.close (tie.spec
     μ-loop
     loop-holds
     (λ c. search needs)
-    (λ c κs. search needs)
+    (λ c κs. tt)
     (λ c. search needs)
     (λ c. search needs)
     loop-again

@@ -20,7 +20,7 @@ returns-3 c = ap answerTold (sym ((c .before .self2 .given) .1))
 pub told-spec : {M : Type 1} → statement M
 told-spec = tie.close (tie.spec
     (λ c. search needs)
-    (λ c κs. search needs)
+    (λ c κs. tt)
     (λ c. search needs)
     (λ c. search needs)
     returns

@@ -16,7 +16,7 @@ returns-2 c = ap statusTold (sym ((c .enum-told .given) .1))
 pub told-spec : {M : Type 1} → statement M
 told-spec = tie.close (tie.spec
     (λ c. search needs)
-    (λ c κs. search needs)
+    (λ c κs. tt)
     (λ c. search needs)
     returns
     returns-2)

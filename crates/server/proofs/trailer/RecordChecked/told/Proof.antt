@@ -17,6 +17,6 @@ pub told-spec : {M : Type 1} → statement M
 told-spec = tie.close (tie.spec
     (λ c. search needs)
     (λ c. search needs)
-    (λ c κs. search needs)
+    (λ c κs. tt)
     returns
     returns-2)
