@@ -1,6 +1,5 @@
 -- `content_kept` meets its contract: by the tag, whose content stands in the input.
 use mathlib.Core.Path.{_≡_, sym, _∙_}
-use borrow.Author.Needs.{needs}
 use native.Mathlib.Omega.{arith}
 use Rattle.sheet.proofs.LawsFields.{size-response, size-other, content-position, content-response, content-mask}
 use Rattle.sheet.proofs.fields.content_kept.Statement.{statement}
@@ -28,7 +27,7 @@ content-kept-spec =
     tie.close
     (tie.spec
     shared-slice-read-position-kept
-    (λ c κs. search needs)
+    (λ c κs. tt)
     returns
     response-kept-requires
     returns-2

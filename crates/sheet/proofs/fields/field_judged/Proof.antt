@@ -1,6 +1,5 @@
 -- `field_judged` meets its contract: each return stands at its rung of `fieldJudged`.
 use mathlib.Core.Path.{sym, _∙_}
-use borrow.Author.Needs.{needs}
 use native.Mathlib.Omega.{arith}
 use Rattle.sheet.proofs.LawsFields.{uncut-head, content-stands, field-22, field-23, field-24, field-accepted}
 use Rattle.sheet.proofs.fields.field_judged.Statement.{statement}
@@ -49,7 +48,7 @@ pub field-judged-spec : {M : Type 1} → statement M
 field-judged-spec =
     tie.close
     (tie.spec
-    (λ c κs. search needs)
+    (λ c κs. tt)
     returns
     wrong-form-requires
     returns-2

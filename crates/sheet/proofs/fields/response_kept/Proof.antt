@@ -42,5 +42,5 @@ response-kept-spec =
     returns-3
     (λ c. search needs)
     (λ c. search needs)
-    (λ c κs. search needs)
+    (λ c κs. tt)
     returns-4)

