@@ -19,14 +19,14 @@ six : (l : List ℕ) (i : ℕ) → i + 6 ≤ length l
 six l i h =
     next l 5 i (i + 1) (omega arith) (omega arith)
     ∙ ap (λ (r : List ℕ). getD l i 0 ∷ r)
-      (next l 4 (i + 1) (i + 2) (omega arith) (omega arith)
-      ∙ ap (λ (r : List ℕ). getD l (i + 1) 0 ∷ r)
-        (next l 3 (i + 2) (i + 3) (omega arith) (omega arith)
-        ∙ ap (λ (r : List ℕ). getD l (i + 2) 0 ∷ r)
-          (next l 2 (i + 3) (i + 4) (omega arith) (omega arith)
-          ∙ ap (λ (r : List ℕ). getD l (i + 3) 0 ∷ r)
-            (next l 1 (i + 4) (i + 5) (omega arith) (omega arith)
-            ∙ ap (λ (r : List ℕ). getD l (i + 4) 0 ∷ r) (next l 0 (i + 5) (i + 6) (omega arith) (omega arith))))))
+    (next l 4 (i + 1) (i + 2) (omega arith) (omega arith)
+    ∙ ap (λ (r : List ℕ). getD l (i + 1) 0 ∷ r)
+    (next l 3 (i + 2) (i + 3) (omega arith) (omega arith)
+    ∙ ap (λ (r : List ℕ). getD l (i + 2) 0 ∷ r)
+    (next l 2 (i + 3) (i + 4) (omega arith) (omega arith)
+    ∙ ap (λ (r : List ℕ). getD l (i + 3) 0 ∷ r)
+    (next l 1 (i + 4) (i + 5) (omega arith) (omega arith)
+    ∙ ap (λ (r : List ℕ). getD l (i + 4) 0 ∷ r) (next l 0 (i + 5) (i + 6) (omega arith) (omega arith))))))
 
 halves : (b l : List ℕ) (at i : ℕ) → i + 6 ≤ length l
     → written (written b at (getD l i 0 ∷ getD l (i + 1) 0 ∷ getD l (i + 2) 0 ∷ [])) (at + 3) (getD l (i + 3) 0 ∷ getD l (i + 4) 0 ∷ getD l (i + 5) 0 ∷ [])
