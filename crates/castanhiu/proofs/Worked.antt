@@ -29,8 +29,8 @@ use Rattle.receiver.specs.Frames.{Frame, singleOf, firstLength, firstOf, kindOf
 use Rattle.receiver.specs.Steps.{gapOf, regionAt, kept, shut, opened, doneOf, leftOf, takenStep, followed, stepOf, stepBy, ownOf, receivedBy, receivedAt, receivedOf, writtenBy, bufferAt, bufferAfter}
 use Rattle.receiver.specs.Shown.{shownOf}
 use Rattle.receiver.specs.Cuts.{framesOf, noFrame, physicalTo, framedAs, framed, headed, pieceOf, between, cutOf}
-use Rattle.receiver.specs.Sequences.{start, _▹_, size, Request}
-use Rattle.receiver.specs.Runs.{Held, answer, offered, handed, handedAt, requests}
+use Rattle.trains.specs.Sequences.{start, _▹_, size, Request}
+use Rattle.trains.specs.Runs.{Held, answer, offered, handed, handedAt, requests}
 use Rattle.receiver.specs.declared.node.Answer.the-variants.{Done}
 use Rattle.receiver.specs.declared.step.Outcome.{Outcome}
 use Rattle.receiver.specs.declared.step.Outcome.the-variants as outcome

@@ -24,7 +24,7 @@ use Rattle.readings.proofs.LawsPositions.{address-only, address-back}
 use Rattle.receiver.specs.declared.frame.Judged.{Judged}
 use Rattle.receiver.specs.declared.frame.Judged.the-variants.{Refused, Single, First, OverLong, Consecutive}
 use Rattle.receiver.specs.Frames.{singleOf, firstLength, firstOf, kindOf, unitIs, diagnostic, destinationOf, addressedFrom, addressedOf, judgedRead, judgedOf}
-use Rattle.receiver.specs.Terms.{Addressed, IsSingle, IsFirst, IsOverLong, IsConsecutive}
+use Rattle.receiver.specs.Wire.{Addressed, IsSingle, IsFirst, IsOverLong, IsConsecutive}
 
 -- what is known of a frame that is judged so
 abbrev pub Fair : Position → ℕ → ℕ → List ℕ → Judged → Type 0

@@ -1,19 +1,6 @@
--- The crate's laws, which belong to no one function, and the theorems of demand 3.
+-- The crate's laws, which belong to no one function.
 pub mod LawsNodes
 pub mod LawsPieces
 pub mod LawsFrames
 pub mod LawsSteps
-pub mod LawsRegions
-pub mod LawsSequences
-pub mod LawsFates
-pub mod LawsViews
-pub mod LawsOthers
-pub mod LawsTracks
-pub mod LawsCarried
-pub mod LawsOwn
-pub mod LawsCuts
-pub mod LawsReadBack
-pub mod LawsSent
 pub mod OneFrame
-pub mod Examples
-pub mod Demand3

@@ -23,12 +23,13 @@ use Rattle.readings.specs.declared.position.Position.the-variants.{Zero, One, T
 use Rattle.readings.specs.declared.position.Vehicle.{Vehicle}
 use Rattle.readings.specs.declared.position.Vehicle.the-variants.{At, NoVehicle}
 use Rattle.readings.proofs.LawsPositions.{position-past}
 use Rattle.receiver.specs.declared.node.Answer.the-variants.{Done, Refused}
 use Rattle.receiver.specs.declared.cutter.FrameCut.{FrameCut}
 use Rattle.receiver.specs.Cuts.{framesOf, noFrame, physicalTo, framedAs, framed, headed, pieceOf, between, cutOf}
-use Rattle.receiver.specs.Runs.{onWire}
+use Rattle.trains.specs.Runs.{onWire}
 use Rattle.receiver.proofs.LawsPieces.{none-else, between-none}
-use Rattle.receiver.specs.Terms.{Addressed, Uncut, empty, too-long, past-last, no-sender, no-receiver, same-position}
+use Rattle.receiver.specs.Wire.{Addressed}
+use Rattle.trains.specs.Terms.{Uncut, empty, too-long, past-last, no-sender, no-receiver, same-position}
 
 -- ---- how many frames
 pub frames-none : (L : ℕ) → either (eqb L 0) (ltb 255 L) ≡ true → framesOf L ≡ 0

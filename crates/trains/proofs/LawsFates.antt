@@ -12,14 +12,14 @@ use Rattle.readings.specs.declared.position.Position.{Position}
 use Rattle.readings.specs.declared.position.Vehicle.{Vehicle}
 use Rattle.readings.specs.declared.position.Vehicle.the-variants.{At, NoVehicle}
 use Rattle.readings.proofs.LawsPositions.{place-back}
 use Rattle.receiver.specs.declared.frame.Judged.{Judged}
 use Rattle.receiver.specs.declared.frame.Judged.the-variants.{Refused, Single, First, OverLong, Consecutive}
 use Rattle.receiver.specs.Frames.{Frame}
 use Rattle.receiver.specs.Steps.{gapOf}
-use Rattle.receiver.specs.Sequences.{Line, _▹_, physicalOf, due, seen, Elsewhere, elsewhere, too-short, Next, Underway, begins, passes, goes-on, Complete}
+use Rattle.trains.specs.Sequences.{Line, _▹_, physicalOf, due, seen, Elsewhere, elsewhere, too-short, Next, Underway, begins, passes, goes-on, Complete}
 use Rattle.receiver.proofs.LawsFrames.{fair}
-use Rattle.receiver.proofs.LawsSequences.{one-underway, passed-next, grown, completed}
-use Rattle.receiver.specs.Terms.{origin, Rests, Aside, by-refusal, by-function, by-vehicle, Ends, by-single, by-first, by-over-long, by-number, by-lateness, Fate, passed-over, taken, completes, ended, Follows}
+use Rattle.trains.proofs.LawsSequences.{one-underway, passed-next, grown, completed}
+use Rattle.trains.specs.Terms.{origin, Rests, Aside, by-refusal, by-function, by-vehicle, Ends, by-single, by-first, by-over-long, by-number, by-lateness, Fate, passed-over, taken, completes, ended, Follows}
 
 -- ---- positions are told apart by their places
 pub places-differ : (p q : Position) → placeOf p ≡ placeOf q → p ≡ q

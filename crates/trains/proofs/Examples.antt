@@ -10,13 +10,13 @@ use Rattle.identifiers.specs.Bytes.{written}
 use Rattle.identifiers.specs.Identifiers.{reservedBit, fieldsOf, frameRead}
 use Rattle.readings.specs.Positions.{addresses, addressOf, positions, vehicleAmong, vehicleOf, positionAt, trailerAt}
 use Rattle.readings.specs.declared.position.Position.the-variants.{Zero, Two}
 use Rattle.receiver.specs.Receptions.{soundReception}
 use Rattle.receiver.specs.Nodes.{receptionAt, withReception, soundNode, freshNode}
 use Rattle.receiver.specs.Frames.{Frame, singleOf, firstLength, firstOf, kindOf, unitIs, diagnostic, destinationOf, addressedFrom, addressedOf, judgedRead, judgedOf}
 use Rattle.receiver.specs.Steps.{gapOf, regionAt, kept, shut, opened, doneOf, leftOf, takenStep, followed, stepOf, stepBy, ownOf, receivedBy, receivedAt, receivedOf, writtenBy, bufferAt, bufferAfter}
 use Rattle.receiver.specs.Shown.{shownOf}
-use Rattle.receiver.specs.Sequences.{Line, start, _▹_, size}
-use Rattle.receiver.specs.Runs.{Held, offered, handed, handedAt, requests}
+use Rattle.trains.specs.Sequences.{Line, start, _▹_, size}
+use Rattle.trains.specs.Runs.{Held, offered, handed, handedAt, requests}
 
 pub frame : ℕ → List ℕ → ℕ → Frame
 frame identifier bytes stamp = record { identifier = identifier; bytes = bytes; stamp = stamp }

@@ -9,14 +9,14 @@ use lib.ListN.{length, take, drop, length-drop}
 use lib.Seq.{length-take-le, take-take, take-append-add}
 use Rattle.readings.specs.Positions.{placeOf}
 use Rattle.readings.specs.declared.position.Position.{Position}
 use Rattle.receiver.specs.declared.frame.Judged.the-variants.{First}
 use Rattle.receiver.specs.Cuts.{framesOf}
 use Rattle.receiver.specs.Frames.{Frame}
-use Rattle.receiver.specs.Sequences.{Line, due, seen, Next, Underway, begins, passes, goes-on, Complete, Stands, single, train}
-use Rattle.receiver.specs.Terms.{carried, firstFrame, followers, Whole}
+use Rattle.trains.specs.Sequences.{Line, due, seen, Next, Underway, begins, passes, goes-on, Complete, Stands, single, train}
+use Rattle.trains.specs.Terms.{carried, firstFrame, followers, Whole}
 use Rattle.receiver.proofs.LawsFrames.{fair}
-use Rattle.receiver.proofs.LawsCuts.{frames-many}
-use Rattle.receiver.proofs.LawsSequences.{grown, bounded}
+use Rattle.trains.proofs.LawsCuts.{frames-many}
+use Rattle.trains.proofs.LawsSequences.{grown, bounded}
 
 module _ {own : Position} {unit : ℕ} {p : Position} where
   -- before its last frame a train takes six bytes of each

@@ -14,16 +14,16 @@ use Rattle.readings.specs.declared.position.Position.{Position}
 use Rattle.readings.specs.declared.position.Vehicle.{Vehicle}
 use Rattle.readings.specs.declared.position.Vehicle.the-variants.{At}
 use Rattle.readings.proofs.LawsPositions.{place-back}
 use Rattle.receiver.specs.declared.cutter.FrameCut.{FrameCut}
 use Rattle.receiver.specs.declared.frame.Judged.{Judged}
 use Rattle.receiver.specs.declared.frame.Judged.the-variants.{Single, First, Consecutive}
 use Rattle.receiver.specs.Frames.{Frame, judgedOf}
 use Rattle.receiver.specs.Cuts.{framesOf, headed, pieceOf, between, cutOf}
-use Rattle.receiver.specs.Sequences.{seen}
-use Rattle.receiver.specs.Runs.{onWire}
-use Rattle.receiver.proofs.LawsCuts.{frames-one, frames-many, identifierTo, headed-wire, cut-addressed}
+use Rattle.trains.specs.Sequences.{seen}
+use Rattle.trains.specs.Runs.{onWire}
+use Rattle.trains.proofs.LawsCuts.{frames-one, frames-many, identifierTo, headed-wire, cut-addressed}
 use Rattle.receiver.proofs.LawsFrames.{single-is, first-is, consecutive-is}
-use Rattle.receiver.specs.Terms.{cutFrame}
+use Rattle.trains.specs.Terms.{cutFrame}
 
 -- a frame that the receiver takes for this, with these data bytes
 pub record Carries (own : Position) (unit : ℕ) (f : Frame) (j : Judged) (bytes : List ℕ) : Type 0 where

@@ -3,15 +3,15 @@ use mathlib.Core.Bool.{false}
 use mathlib.Core.List.{List, [], _∷_, _++_}
 use Prim.Native.Nat.{ℕ}
 use lib.ListN.{take}
 use Rattle.receiver.specs.declared.node.Node.{Node}
 use Rattle.receiver.specs.declared.step.Outcome.{Outcome}
 use Rattle.receiver.specs.declared.step.Outcome.the-variants.{Refused, OverLong, Opened, Taken, Single, Train}
 use Rattle.receiver.specs.declared.step.Received.{Received}
 use Rattle.receiver.specs.declared.cutter.FrameCut.{FrameCut}
 use Rattle.receiver.specs.Frames.{Frame}
 use Rattle.receiver.specs.Steps.{receivedOf, bufferAfter}
 use Rattle.receiver.specs.Shown.{shownOf}
-use Rattle.receiver.specs.Sequences.{Line, start, _▹_, size, Request}
+use Rattle.trains.specs.Sequences.{Line, start, _▹_, size, Request}
 
 -- the node and its buffer
 pub record Held : Type 0 where

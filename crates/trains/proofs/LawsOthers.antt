@@ -11,19 +11,19 @@ use Rattle.identifiers.specs.Choice.{pick}
 use Rattle.readings.specs.Positions.{placeOf}
 use Rattle.readings.specs.declared.position.Position.{Position}
 use Rattle.readings.specs.declared.position.Vehicle.the-variants.{At}
 use Rattle.receiver.specs.declared.reception.Reception.{Reception}
 use Rattle.receiver.specs.declared.node.Node.{Node}
 use Rattle.receiver.specs.declared.frame.Judged.{Judged}
 use Rattle.receiver.specs.declared.frame.Judged.the-variants.{Refused, Single, First, OverLong, Consecutive}
 use Rattle.receiver.specs.declared.step.Step.{Step}
 use Rattle.receiver.specs.declared.step.Outcome.{Outcome}
 use Rattle.receiver.specs.Receptions.{closed}
 use Rattle.receiver.specs.Nodes.{receptionAt, withReception}
 use Rattle.receiver.specs.Steps.{regionAt, kept, stepOf, judgedPlace, writtenBy}
-use Rattle.receiver.specs.Sequences.{start, physicalOf, begins}
+use Rattle.trains.specs.Sequences.{start, physicalOf, begins}
 use Rattle.receiver.proofs.LawsSteps.{Fitted, kept-writes}
-use Rattle.receiver.proofs.LawsRegions.{stays}
-use Rattle.receiver.proofs.LawsFates.{places-differ}
+use Rattle.trains.proofs.LawsRegions.{stays}
+use Rattle.trains.proofs.LawsFates.{places-differ}
 
 -- of a step of the vehicle at this place, by a frame with these data bytes: the vehicle q keeps what it has
 pub record Unmoved (q : Position) (n : Node) (buffer bytes : List ℕ) (place : ℕ) (s : Step) : Type 0 where

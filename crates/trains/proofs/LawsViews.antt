@@ -14,23 +14,23 @@ use Rattle.identifiers.specs.declared.refusal.Refusal.{Refusal}
 use Rattle.readings.specs.Positions.{placeOf}
 use Rattle.readings.specs.declared.position.Position.{Position}
 use Rattle.readings.proofs.LawsPositions.{place-below}
 use Rattle.receiver.specs.declared.reception.Reception.{Reception}
 use Rattle.receiver.specs.declared.frame.Judged.{Judged}
 use Rattle.receiver.specs.declared.frame.Judged.the-variants.{Refused, Single, First, OverLong, Consecutive}
 use Rattle.receiver.specs.declared.step.Step.{Step}
 use Rattle.receiver.specs.declared.step.Outcome.the-variants as outcome
 use Rattle.receiver.specs.Receptions.{closed, openWith}
 use Rattle.receiver.specs.Frames.{Frame}
 use Rattle.receiver.specs.Steps.{regionAt, kept, shut, opened, followed, stepOf, writtenBy}
 use Rattle.receiver.specs.Shown.{shownOf}
-use Rattle.receiver.specs.Sequences.{Line, _▹_, size, physicalOf, due, Request, seen, elsewhere, too-short, Next, Underway, begins, passes, goes-on, Complete, Stands, single, train}
-use Rattle.receiver.specs.Runs.{handed}
+use Rattle.trains.specs.Sequences.{Line, _▹_, size, physicalOf, due, Request, seen, elsewhere, too-short, Next, Underway, begins, passes, goes-on, Complete, Stands, single, train}
+use Rattle.trains.specs.Runs.{handed}
 use Rattle.receiver.proofs.LawsFrames.{fair}
 use Rattle.receiver.proofs.LawsSteps.{nothing-open, followed-short, followed-wrong, followed-late, followed-on, followed-last, kept-writes}
-use Rattle.receiver.proofs.LawsRegions.{grows}
-use Rattle.receiver.specs.Terms.{Rests, Ends, by-single, by-first, by-over-long, by-number, by-lateness, Fate, passed-over, taken, completes, ended, Follows}
-use Rattle.receiver.proofs.LawsSequences.{grown, bounded}
-use Rattle.receiver.proofs.LawsFates.{Mine, a-single, a-first, an-over-long, a-consecutive, fate, rests-on, follows}
+use Rattle.trains.proofs.LawsRegions.{grows}
+use Rattle.trains.specs.Terms.{Rests, Ends, by-single, by-first, by-over-long, by-number, by-lateness, Fate, passed-over, taken, completes, ended, Follows}
+use Rattle.trains.proofs.LawsSequences.{grown, bounded}
+use Rattle.trains.proofs.LawsFates.{Mine, a-single, a-first, an-over-long, a-consecutive, fate, rests-on, follows}
 
 module _ (own : Position) (unit : ℕ) where
   -- the reception of p and the buffer, after h: closed where no train of p is under way, else open with its numbers, and its bytes are in p's part of the buffer

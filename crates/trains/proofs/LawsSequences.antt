@@ -7,11 +7,11 @@ use native.Mathlib.Omega.{arith}
 use lib.ListN.{length, drop, length-append, length-drop}
 use lib.Seq.{length-take-le}
 use Rattle.readings.specs.declared.position.Position.{Position}
 use Rattle.receiver.specs.declared.frame.Judged.the-variants.{First}
 use Rattle.receiver.specs.Frames.{Frame}
-use Rattle.receiver.specs.Sequences.{Line, _▹_, physicalOf, due, Request, seen, Passed, elsewhere, too-short, Next, Underway, begins, passes, goes-on, Complete, Stands, single, train, Reading, none-yet, no-more, one-more}
+use Rattle.trains.specs.Sequences.{Line, _▹_, physicalOf, due, Request, seen, Passed, elsewhere, too-short, Next, Underway, begins, passes, goes-on, Complete, Stands, single, train, Reading, none-yet, no-more, one-more}
 use Rattle.receiver.proofs.LawsFrames.{fair}
-use Rattle.receiver.specs.Terms.{Within, same, later, origin, Rests}
+use Rattle.trains.specs.Terms.{Within, same, later, origin, Rests}
 
 -- the numbers of a train under way
 pub record Bounded (L k : ℕ) (b : List ℕ) : Type 0 where

@@ -9,12 +9,12 @@ use Rattle.identifiers.specs.Choice.{pick}
 use Rattle.identifiers.specs.Identifiers.{fieldsOf}
 use Rattle.readings.specs.Positions.{addressOf}
 use Rattle.readings.specs.declared.position.Position.{Position}
 use Rattle.receiver.specs.declared.frame.Judged.{Judged}
 use Rattle.receiver.specs.Frames.{Frame}
-use Rattle.receiver.specs.Sequences.{Line, start, _▹_, physicalOf, seen, Elsewhere, elsewhere, Underway, begins, passes, goes-on, Complete}
-use Rattle.receiver.specs.Terms.{only, fromAddress}
+use Rattle.trains.specs.Sequences.{Line, start, _▹_, physicalOf, seen, Elsewhere, elsewhere, Underway, begins, passes, goes-on, Complete}
+use Rattle.trains.specs.Terms.{only, fromAddress}
 use Rattle.receiver.proofs.LawsFrames.{Fair, fair}
-use Rattle.receiver.proofs.LawsFates.{Mine, a-single, a-first, an-over-long, a-consecutive, mine}
+use Rattle.trains.proofs.LawsFates.{Mine, a-single, a-first, an-over-long, a-consecutive, mine}
 
 module _ (own : Position) (unit : ℕ) (p : Position) where
   -- ---- whose frame it is, by its SA

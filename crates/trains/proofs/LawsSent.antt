@@ -10,16 +10,16 @@ use lib.ListN.{length, take, drop, length-take, length-drop}
 use lib.Seq.{take-add, take-all, take-take, take-length}
 use Rattle.readings.specs.Positions.{placeOf}
 use Rattle.readings.specs.declared.position.Position.{Position}
 use Rattle.receiver.specs.declared.frame.Judged.the-variants.{First}
 use Rattle.receiver.specs.Frames.{Frame}
 use Rattle.receiver.specs.Steps.{gapOf}
 use Rattle.receiver.specs.Cuts.{framesOf}
-use Rattle.receiver.specs.Sequences.{Line, _▹_, size, due, Request, elsewhere, Next, Underway, begins, passes, goes-on, Complete, Stands, single, train, Reading, no-more, one-more}
-use Rattle.receiver.specs.Terms.{taken, Follows, cutFrame, Sent, first-sent, between, next-sent, SentWhole, alone, last-sent, sends, InTime}
-use Rattle.receiver.proofs.LawsCuts.{frames-one, frames-many}
-use Rattle.receiver.proofs.LawsReadBack.{cut-single, cut-first, cut-consecutive}
-use Rattle.receiver.proofs.LawsFates.{follows}
-use Rattle.receiver.proofs.LawsViews.{none-stands, only-train}
+use Rattle.trains.specs.Sequences.{Line, _▹_, size, due, Request, elsewhere, Next, Underway, begins, passes, goes-on, Complete, Stands, single, train, Reading, no-more, one-more}
+use Rattle.trains.specs.Terms.{taken, Follows, cutFrame, Sent, first-sent, between, next-sent, SentWhole, alone, last-sent, sends, InTime}
+use Rattle.trains.proofs.LawsCuts.{frames-one, frames-many}
+use Rattle.trains.proofs.LawsReadBack.{cut-single, cut-first, cut-consecutive}
+use Rattle.trains.proofs.LawsFates.{follows}
+use Rattle.trains.proofs.LawsViews.{none-stands, only-train}
 
 module _ (own : Position) (unit : ℕ) (p : Position) (m : List ℕ) (other : placeOf p ≢ placeOf own) where
   -- ---- a message of more than six bytes is a train

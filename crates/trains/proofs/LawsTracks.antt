@@ -14,23 +14,23 @@ use Rattle.readings.specs.Positions.{placeOf, trailerAt}
 use Rattle.readings.specs.declared.position.Position.{Position}
 use Rattle.readings.specs.declared.position.Vehicle.the-variants.{At}
 use Rattle.readings.proofs.LawsPositions.{place-below, trailer-back}
 use Rattle.receiver.specs.declared.reception.Reception.{Reception}
 use Rattle.receiver.specs.declared.frame.Judged.{Judged}
 use Rattle.receiver.specs.declared.frame.Judged.the-variants.{Refused, Single, First, OverLong, Consecutive}
 use Rattle.receiver.specs.declared.step.Step.{Step}
 use Rattle.receiver.specs.Receptions.{closed, soundReception}
 use Rattle.receiver.specs.Nodes.{receptionAt, withReception, soundNode, freshNode}
 use Rattle.receiver.specs.Frames.{Frame, judgedOf}
 use Rattle.receiver.specs.Steps.{kept, stepOf, judgedPlace, stepBy, receivedBy, writtenBy, bufferAfter}
 use Rattle.receiver.specs.Shown.{shownOf}
-use Rattle.receiver.specs.Sequences.{Line, start, _▹_, size, physicalOf, seen, Elsewhere, elsewhere, Underway, begins, passes, goes-on, single}
-use Rattle.receiver.specs.Runs.{Held, answer, next, offered, handed, handedAt}
+use Rattle.trains.specs.Sequences.{Line, start, _▹_, size, physicalOf, seen, Elsewhere, elsewhere, Underway, begins, passes, goes-on, single}
+use Rattle.trains.specs.Runs.{Held, answer, next, offered, handed, handedAt}
 use Rattle.receiver.proofs.LawsFrames.{fair}
 use Rattle.receiver.proofs.LawsSteps.{Fitted, step-fitted, about, about-place, place-judged, sound-at, sound-with, length-after, received-is, buffer-is}
-use Rattle.receiver.proofs.LawsOthers.{unmoved}
-use Rattle.receiver.proofs.LawsSequences.{bounded}
-use Rattle.receiver.proofs.LawsFates.{Mine, a-single, a-first, an-over-long, a-consecutive, mine, whose, rests-on}
-use Rattle.receiver.proofs.LawsViews.{View, resting, receiving, Verdict, nothing, one, Advances, none-stands, advance-mine}
+use Rattle.trains.proofs.LawsOthers.{unmoved}
+use Rattle.trains.proofs.LawsSequences.{bounded}
+use Rattle.trains.proofs.LawsFates.{Mine, a-single, a-first, an-over-long, a-consecutive, mine, whose, rests-on}
+use Rattle.trains.proofs.LawsViews.{View, resting, receiving, Verdict, nothing, one, Advances, none-stands, advance-mine}
 
 mine-place : {q : Position} {j : Judged} → Mine q j → judgedPlace j ≡ placeOf q
 mine-place a-single = refl

@@ -12,27 +12,28 @@ use Rattle.readings.specs.Positions.{placeOf, addressOf}
 use Rattle.readings.specs.declared.position.Position.{Position}
 use Rattle.readings.specs.declared.position.Position.the-variants.{One}
 use Rattle.readings.proofs.LawsPositions.{trailer-back}
 use Rattle.receiver.specs.declared.node.Node.{Node}
 use Rattle.receiver.specs.declared.node.Answer.the-variants.{Done, Refused}
 use Rattle.receiver.specs.declared.cutter.FrameCut.{FrameCut}
 use Rattle.receiver.specs.declared.frame.Judged.the-variants.{Single, First, OverLong, Consecutive}
 use Rattle.receiver.specs.Nodes.{freshNode, startOf, freshOf, madeAt, done}
 use Rattle.receiver.specs.Frames.{Frame}
 use Rattle.receiver.specs.Steps.{gapOf}
 use Rattle.receiver.specs.Cuts.{framesOf, noFrame, cutOf}
-use Rattle.receiver.specs.Sequences.{Line, start, _▹_, size, Request, seen, Elsewhere, Underway, Complete, Stands, Reading, none-yet, no-more, one-more}
-use Rattle.receiver.specs.Runs.{Held, handedAt, requests}
-use Rattle.receiver.specs.Terms.{Addressed, IsSingle, IsFirst, IsOverLong, IsConsecutive, Within, same, later, only, fromAddress, origin, Aside, Fate, Follows, Whole, Uncut, cutFrame, SentWhole, sends, InTime}
+use Rattle.trains.specs.Sequences.{Line, start, _▹_, size, Request, seen, Elsewhere, Underway, Complete, Stands, Reading, none-yet, no-more, one-more}
+use Rattle.trains.specs.Runs.{Held, handedAt, requests}
+use Rattle.receiver.specs.Wire.{Addressed, IsSingle, IsFirst, IsOverLong, IsConsecutive}
+use Rattle.trains.specs.Terms.{Within, same, later, only, fromAddress, origin, Aside, Fate, Follows, Whole, Uncut, cutFrame, SentWhole, sends, InTime}
 use Rattle.receiver.proofs.LawsFrames.{single-is, first-is, over-long-is, consecutive-is}
-use Rattle.receiver.proofs.LawsSequences.{same-train, one-request, readings-agree, once}
-use Rattle.receiver.proofs.LawsFates.{fate, follows, elsewhere-is}
-use Rattle.receiver.proofs.LawsViews.{Verdict, nothing, one}
-use Rattle.receiver.proofs.LawsTracks.{freshHeld, verdict}
-use Rattle.receiver.proofs.LawsCarried.{whole, request-bounds}
-use Rattle.receiver.proofs.LawsOwn.{elsewhere-by-source, others-by-address, alone}
-use Rattle.receiver.proofs.LawsCuts.{cut-16, only-16}
-use Rattle.receiver.proofs.LawsReadBack.{Carries, cut-single, cut-first, cut-consecutive}
-use Rattle.receiver.proofs.LawsSent.{sent-stands, sent-whole, read-after}
+use Rattle.trains.proofs.LawsSequences.{same-train, one-request, readings-agree, once}
+use Rattle.trains.proofs.LawsFates.{fate, follows, elsewhere-is}
+use Rattle.trains.proofs.LawsViews.{Verdict, nothing, one}
+use Rattle.trains.proofs.LawsTracks.{freshHeld, verdict}
+use Rattle.trains.proofs.LawsCarried.{whole, request-bounds}
+use Rattle.trains.proofs.LawsOwn.{elsewhere-by-source, others-by-address, alone}
+use Rattle.trains.proofs.LawsCuts.{cut-16, only-16}
+use Rattle.trains.proofs.LawsReadBack.{Carries, cut-single, cut-first, cut-consecutive}
+use Rattle.trains.proofs.LawsSent.{sent-stands, sent-whole, read-after}
 
 -- ---- the statements
 -- "Start a node fresh": at any own position 1 to 5, with any unit, held with any buffer of 1,536 bytes.

@@ -1,0 +1,14 @@
+-- Laws of sequences and of a node that is offered one, and the theorems of demand 3.
+pub mod LawsRegions
+pub mod LawsSequences
+pub mod LawsFates
+pub mod LawsViews
+pub mod LawsOthers
+pub mod LawsTracks
+pub mod LawsCarried
+pub mod LawsOwn
+pub mod LawsCuts
+pub mod LawsReadBack
+pub mod LawsSent
+pub mod Examples
+pub mod Demand3
