@@ -69,12 +69,12 @@ pub extern "C" fn castanhiu_receive(
     ensures { λ r. ⌜ (r ≡ receivedTold (receivedOf node (now (buffer .entry)) identifier (now («data» .entry)) stamp))
         × (now (buffer .exit) ≡ bufferAfter node (now (buffer .entry)) identifier (now («data» .entry)) stamp) ⌝ }
 {
-    let moved = move_reception(node, buffer, identifier, data, stamp);
+    let mut next = node;
+    let moved = move_reception(next, buffer, identifier, data, stamp);
     let p = moved.place;
     let reception = moved.reception;
     let outcome = moved.outcome;
     let told = outcome.told();
-    let mut next = node;
     next.receptions[p] = reception;
     FrameReceived {
         node: next,

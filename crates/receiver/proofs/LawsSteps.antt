@@ -203,9 +203,18 @@ module _ (n : Node) (own : Position) (identifier : ℕ) (bytes : List ℕ) (stam
 
 -- ---- the step of a node that keeps its rules, held with a buffer of 1,536 bytes
 -- how it is tested: the two halves of the node's rules, and the buffer's length
-pub rules-tested : (n : Node) (room : ℕ) {front behind : Bool} → front ≡ soundInFront n → behind ≡ soundBehind n → (front && behind) && eqb room 1536 ≡ both (soundNode n) (eqb room 1536)
-rules-tested n room e f =
-    rw (e, f) (and-is (soundInFront n && soundBehind n) (eqb room 1536) ∙ ap (λ (b : Bool). both b (eqb room 1536)) (and-is (soundInFront n) (soundBehind n) ∙ sym (halves n)))
+module _ (n : Node) (room : ℕ) {front behind : Bool} (e : front ≡ soundInFront n) (f : behind ≡ soundBehind n) where
+  tested : (front && behind) && eqb room 1536 ≡ both (soundNode n) (eqb room 1536)
+  tested =
+      rw (e, f) (and-is (soundInFront n && soundBehind n) (eqb room 1536) ∙ ap (λ (b : Bool). both b (eqb room 1536)) (and-is (soundInFront n) (soundBehind n) ∙ sym (halves n)))
+
+  pub not-ready : (front && behind) && eqb room 1536 ≡ false → ownOf n room ≡ NoVehicle
+  unfolding ownOf
+  not-ready t = pick-false _ _ (sym tested ∙ t)
+
+  pub ready-own : (front && behind) && eqb room 1536 ≡ true → ownOf n room ≡ trailerAt (n .own)
+  unfolding ownOf
+  ready-own t = pick-true _ _ (sym tested ∙ t)
 
 pub record Ready (n : Node) (room : ℕ) (own : Position) : Type 0 where
   pub sound : soundNode n ≡ true

@@ -7,7 +7,7 @@ ghost use Rattle.readings.specs.Positions.{placeOf};
 ghost use Rattle.readings.specs.declared.position.Position.{Position};
 ghost use Rattle.receiver.specs.declared.frame.Judged.the-variants.{First};
 ghost use Rattle.receiver.specs.Receptions.{soundReception};
-ghost use Rattle.receiver.specs.Steps.{gapOf, kept, shut, opened, leftOf, takenStep, followed, stepOf, judgedPlace, ownOf, unmovedAs, movedOf, receivedOf, writtenBy, bufferAfter, dueOf, nothingTold, outcomeTold};
+ghost use Rattle.receiver.specs.Steps.{gapOf, kept, shut, opened, leftOf, takenStep, followed, stepOf, judgedPlace, unmovedAs, movedOf, receivedOf, writtenBy, bufferAfter, dueOf, nothingTold, outcomeTold};
 use crate::bytes::store;
 use crate::bytes::store_six;
 use crate::frame::Judged;
@@ -269,17 +269,6 @@ fn place_of(judged: Judged) -> usize
     }
 }
 
-// Check 1: the own position of a node that keeps its rules, held with a buffer of 1,536 bytes.
-fn own_of(node: Node, room: usize) -> Vehicle
-    ensures { λ r. ⌜ r ≡ ownOf node room ⌝ }
-{
-    let sound = is_sound_in_front(node) & is_sound_behind(node);
-    if !(sound & (room == 1536)) {
-        return Vehicle::NoVehicle;
-    }
-    Position::trailer(node.own)
-}
-
 // Refusal 1 moves nothing.
 fn unmoved(node: Node) -> Moved
     ensures { λ r. ⌜ r ≡ unmovedAs node ⌝ }
@@ -302,7 +291,11 @@ pub fn move_reception(
     ensures { λ r. ⌜ (r ≡ movedOf node (now (buffer .entry)) identifier (now («data» .entry)) stamp)
         × (now (buffer .exit) ≡ bufferAfter node (now (buffer .entry)) identifier (now («data» .entry)) stamp) ⌝ }
 {
-    let Vehicle::At(own) = own_of(node, buffer.len()) else {
+    let sound = is_sound_in_front(node) & is_sound_behind(node);
+    if !(sound & (buffer.len() == 1536)) {
+        return unmoved(node);
+    }
+    let Vehicle::At(own) = Position::trailer(node.own) else {
         return unmoved(node);
     };
     let judged = judge(own, node.unit, identifier, data);
