@@ -1,6 +1,6 @@
 -- Written then read gives the fields back, read then written gives the number back; each rung of the checks, and the formula.
-use mathlib.Core.Path.{_≡_, refl, sym, ap, _∙_, subst}
-use mathlib.Core.Bool.{Bool, true, false}
+use mathlib.Core.Path.{_≡_, refl, sym, ap, _∙_}
+use mathlib.Core.Bool.{true}
 use Prim.Native.Nat.{ℕ, _+_, _*_, _/_, _%_, _^_, _≤_, _<_}
 use native.Mathlib.Nat.{mod-eq-of-lt}
 use native.Mathlib.Omega.{arith}
@@ -12,9 +12,7 @@ use Rattle.identifiers.specs.Refusals.{refusal}
 use Rattle.identifiers.specs.Identifiers.{formula, reservedBit, fieldsOf, frameRead, readOf, writtenAs}
 use Rattle.identifiers.specs.declared.refusal.Refusal.{Refusal}
 use Rattle.identifiers.specs.declared.identifier.Identifier.{Identifier}
-use Rattle.identifiers.specs.declared.identifier.IdentifierRead.{IdentifierRead}
 use Rattle.identifiers.specs.declared.identifier.IdentifierRead.the-variants as read
-use Rattle.identifiers.specs.declared.identifier.IdentifierWritten.{IdentifierWritten}
 use Rattle.identifiers.specs.declared.identifier.IdentifierWritten.the-variants as written
 use Rattle.identifiers.proofs.LawsChoice.{pick-true, pick-false, was-passed, right-decides, either-false}
 

@@ -1,17 +1,15 @@
 -- Of every kind and every raw number: what is read as a value is exact, by one law over the divisor, the offset and the width.
-use mathlib.Core.Path.{_≡_, refl, sym, ap, subst, _∙_}
-use mathlib.Core.Bool.{Bool, true, false}
+use mathlib.Core.Path.{_≡_, refl, sym, subst, _∙_}
 use mathlib.Core.List.{List, [], _∷_}
-use Prim.Native.Nat.{ℕ, zero, suc, _*_, _/_, _^_, _≤_, _<_}
+use Prim.Native.Nat.{ℕ, zero, suc, _*_, _^_, _≤_, _<_}
 use native.Mathlib.Omega.{arith}
-use borrow.Author.Tests.{lt-ltb, le-ltb, le-leb, lt-leb, eq-eqb, ne-eqb, ltb-false}
+use borrow.Author.Tests.{le-ltb, le-leb, lt-leb, eq-eqb, ne-eqb, ltb-false}
 use lib.Dec.{T, leb, ltb, eqb, lit<, lit≤}
 use lib.IntN.{ℤ, pos, natAbs, subℕ}
 use lib.Ieee.{Float}
 use lib.ListN.{getD, List·getD-eq-default}
 use Rattle.identifiers.specs.Choice.{pick}
 use Rattle.identifiers.specs.Refusals.{refusal}
-use Rattle.identifiers.specs.declared.refusal.Refusal.{Refusal}
 use Rattle.identifiers.proofs.LawsChoice.{pick-true, pick-false, Holds, by-test}
 use Rattle.readings.specs.declared.kind.Kind.{Kind}
 use Rattle.readings.specs.declared.reading.Reading.{Reading}
@@ -21,8 +19,8 @@ use Rattle.readings.specs.declared.reading.ParameterRead.{ParameterRead}
 use Rattle.readings.specs.declared.reading.ParameterRead.the-variants as parameter
 use Rattle.readings.specs.declared.reading.TwoBits.the-variants as bits
 use Rattle.readings.specs.declared.reading.TwoBitsRead.the-variants as two
-use Rattle.readings.specs.Fractions.{fraction, Exact, PowerOfTwo}
-use Rattle.readings.specs.Kinds.{kinds, kindOf, highByte, wholeOf, Sound}
+use Rattle.readings.specs.Fractions.{fraction, Exact}
+use Rattle.readings.specs.Kinds.{kinds, kindOf, wholeOf, Sound}
 use Rattle.readings.specs.Readings.{bare, valued, inRange, measuredBy, measuredAs, parameterOf, twoBitsOf, valueOf}
 use Rattle.readings.specs.Readings.{zero as +0}
 use Rattle.readings.proofs.LawsFractions.{fraction-exact}

@@ -1,5 +1,5 @@
 -- The route in laws: each refusal, what passes, what is kept and sent on; a frame is never sent back, and priority is ignored.
-use mathlib.Core.Path.{_≡_, refl, sym, ap, _∙_}
+use mathlib.Core.Path.{_≡_, refl, ap, _∙_}
 use mathlib.Core.Bool.{Bool, true, false}
 use Prim.Native.Nat.{ℕ}
 use native.Mathlib.Omega.{arith}
@@ -8,7 +8,6 @@ use Rattle.identifiers.specs.Refusals.{refusal}
 use Rattle.identifiers.specs.Identifiers.{frameRead, targetOf}
 use Rattle.identifiers.specs.declared.refusal.Refusal.{Refusal}
 use Rattle.identifiers.specs.declared.identifier.Identifier.{Identifier}
-use Rattle.identifiers.specs.declared.identifier.IdentifierRead.{IdentifierRead}
 use Rattle.identifiers.specs.declared.identifier.IdentifierRead.the-variants as read
 use Rattle.identifiers.proofs.LawsChoice.{pick-true, pick-false}
 use Rattle.readings.specs.declared.position.Position.{Position}
@@ -17,8 +16,7 @@ use Rattle.readings.specs.declared.position.Vehicle.the-variants.{At, No
 use Rattle.readings.specs.declared.routing.Side.{Side}
 use Rattle.readings.specs.declared.routing.Side.the-variants.{Predecessor, Successor}
 use Rattle.readings.specs.declared.routing.Onward.{Onward}
-use Rattle.readings.specs.declared.routing.Onward.the-variants.{Nowhere, ToPredecessor, ToSuccessor}
-use Rattle.readings.specs.declared.routing.Routed.{Routed}
+use Rattle.readings.specs.declared.routing.Onward.the-variants.{ToPredecessor, ToSuccessor}
 use Rattle.readings.specs.declared.routing.Routed.the-variants.{Passed, Neither, Refused}
 use Rattle.readings.specs.Positions.{placeOf, vehicleOf}
 use Rattle.readings.specs.Routes.{ownAt, comes, onwardOf, passage, routedFrom, routedBy, routedRead, routedAt, routeOf}

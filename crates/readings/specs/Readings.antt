@@ -1,6 +1,6 @@
 -- What a raw number of a kind says, and what two bits say (document 01, "Readings").
 use mathlib.Core.Bool.{false}
-use mathlib.Core.List.{List, [], _∷_}
+use mathlib.Core.List.{[], _∷_}
 use Prim.Native.Nat.{ℕ}
 use lib.Dec.{leb, ltb, eqb}
 use lib.IntN.{pos}
@@ -11,7 +11,6 @@ use Rattle.identifiers.specs.Refusals.{refusal, numberOf}
 use Rattle.readings.specs.declared.kind.Kind.{Kind}
 use Rattle.readings.specs.declared.reading.Reading.{Reading}
 use Rattle.readings.specs.declared.reading.Reading.the-variants.{Value, Reserved, Error, NotAvailable, BeyondRange}
-use Rattle.readings.specs.declared.reading.Measured.{Measured}
 use Rattle.readings.specs.declared.reading.ParameterRead.{ParameterRead}
 use Rattle.readings.specs.declared.reading.ParameterRead.the-variants as parameter
 use Rattle.readings.specs.declared.reading.ParameterReadTold.{ParameterReadTold}

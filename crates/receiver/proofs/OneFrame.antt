@@ -4,16 +4,15 @@ use mathlib.Core.Bool.{Bool, true, false}
 use mathlib.Core.List.{List}
 use Prim.Native.Nat.{ℕ, _+_, _*_, _≤_}
 use native.Mathlib.Omega.{arith}
-use borrow.Author.Tests.{ne-eqb, eqb-true}
-use lib.Dec.{eqb}
+use borrow.Author.Tests.{ne-eqb}
 use lib.ListN.{length, take, drop, length-drop}
 use lib.Seq.{length-take-le, set-getD}
-use Rattle.identifiers.specs.Choice.{pick, both, either}
+use Rattle.identifiers.specs.Choice.{pick, either}
 use Rattle.identifiers.specs.Bytes.{written}
 use Rattle.identifiers.specs.Refusals.{refusal, numberOf}
 use Rattle.identifiers.specs.declared.refusal.Refusal.{Refusal}
-use Rattle.identifiers.proofs.LawsChoice.{Holds, by-test, pick-true, pick-false, right-decides, both-true}
-use Rattle.readings.specs.Positions.{placeOf, trailerAt}
+use Rattle.identifiers.proofs.LawsChoice.{Holds, by-test, pick-true, pick-false, right-decides}
+use Rattle.readings.specs.Positions.{placeOf}
 use Rattle.readings.proofs.LawsPositions.{place-below}
 use Rattle.readings.specs.declared.position.Position.{Position}
 use Rattle.readings.specs.declared.position.Vehicle.{Vehicle}
@@ -26,7 +25,7 @@ use Rattle.receiver.specs.declared.step.Step.{Step}
 use Rattle.receiver.specs.declared.step.Outcome.{Outcome}
 use Rattle.receiver.specs.declared.step.Outcome.the-variants.{Refused, OverLong, Single}
 use Rattle.receiver.specs.Receptions.{closed}
-use Rattle.receiver.specs.Nodes.{receptionAt, withReception, soundNode}
+use Rattle.receiver.specs.Nodes.{receptionAt, withReception}
 use Rattle.receiver.specs.Frames.{judgedOf}
 use Rattle.receiver.specs.Steps.{regionAt, kept, shut, opened, takenStep, followed, stepOf, judgedPlace, stepBy, ownOf, receivedBy, receivedAt, receivedOf, writtenBy, bufferAt, bufferAfter}
 use Rattle.receiver.specs.Shown.{shownOf}

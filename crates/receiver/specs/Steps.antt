@@ -1,5 +1,5 @@
 -- One frame received: what it does to its vehicle's reception and to the buffer (document 01, "Frames and trains").
-use mathlib.Core.Bool.{Bool, false}
+use mathlib.Core.Bool.{false}
 use mathlib.Core.List.{List}
 use Prim.Native.Nat.{ℕ, _+_, _-_, _*_, _%_, _^_, min}
 use lib.Dec.{ltb, eqb}

@@ -1,6 +1,5 @@
 -- `high_byte` meets its contract: by how many bytes there are.
 use mathlib.Core.Path.{refl}
-use borrow.Author.Needs.{needs}
 use borrow.Author.Tests.{eq-eqb, ne-eqb}
 use Rattle.identifiers.proofs.LawsChoice.{taken, passed}
 use Rattle.readings.specs.Kinds.{highByte}

@@ -1,5 +1,5 @@
 -- `in_range` meets its contract: past the last raw number it is beyond range, and else the exact value.
-use mathlib.Core.Path.{sym, _∙_}
+use mathlib.Core.Path.{sym}
 use borrow.Author.Needs.{needs, sfits-of}
 use borrow.Author.Tests.{lt-ltb}
 use mir.Syntax.{w32}

@@ -1,9 +1,7 @@
 -- `read_two_bits` meets its contract: each arm has the list's entry of its number, and past them is refusal 20.
-use mathlib.Core.Path.{_≡_, refl, sym, ap}
-use mathlib.Core.List.{[], _∷_}
+use mathlib.Core.Path.{_≡_, sym, ap}
 use Prim.Native.Nat.{ℕ, _≤_}
 use native.Mathlib.Omega.{arith}
-use lib.ListN.{List·getD-eq-default}
 use Rattle.readings.specs.Readings.{twoBitsOf}
 use Rattle.readings.proofs.LawsReadings.{two-bits-20}
 use Rattle.readings.proofs.reading.read_two_bits.Statement.{statement}

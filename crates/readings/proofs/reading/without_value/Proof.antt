@@ -1,6 +1,5 @@
 -- `without_value` meets its contract: the whole number is 0.
 use mathlib.Core.Path.{refl}
-use borrow.Author.Needs.{needs}
 use Rattle.readings.specs.Readings.{bare}
 use Rattle.readings.proofs.reading.without_value.Statement.{statement}
 use Rattle.readings.proofs.reading.without_value.Tie as tie

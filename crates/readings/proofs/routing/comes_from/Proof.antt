@@ -1,5 +1,4 @@
 -- `comes_from` meets its contract: by the side.
-use mathlib.Core.Path.{_∙_}
 use borrow.Author.Needs.{needs}
 use Rattle.identifiers.proofs.LawsChoice.{and-is}
 use Rattle.readings.specs.Routes.{comes}

@@ -1,5 +1,5 @@
 -- `move_reception` meets its contract: 1 for the state and the buffer, then what the judged frame does to its vehicle's reception and to the buffer.
-use mathlib.Core.Path.{_≡_, refl, sym, ap, _∙_}
+use mathlib.Core.Path.{_≡_, sym, ap, _∙_}
 use mathlib.Core.List.{List}
 use Prim.Native.Nat.{ℕ}
 use borrow.Author.Needs.{needs}

@@ -1,5 +1,5 @@
 -- `Position::after` meets its contract: by the vehicle that has the address, to the one after it.
-use mathlib.Core.Path.{sym, ap, _∙_}
+use mathlib.Core.Path.{sym, _∙_}
 use borrow.Author.Needs.{needs}
 use Rattle.readings.proofs.LawsPositions.{after-none, after-last, after-next}
 use Rattle.readings.proofs.position.Position.after.Statement.{statement}

@@ -1,6 +1,6 @@
 -- `Position::at` meets its contract: each arm has the list's entry of its number, and past them there is none.
 use mathlib.Core.Path.{sym, ap}
-use Prim.Native.Nat.{ℕ, _≤_}
+use Prim.Native.Nat.{_≤_}
 use native.Mathlib.Omega.{arith}
 use Rattle.readings.specs.Positions.{positionAt}
 use Rattle.readings.proofs.LawsPositions.{position-past}

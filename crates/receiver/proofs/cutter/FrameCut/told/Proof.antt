@@ -1,5 +1,4 @@
 -- `FrameCut::told` meets its contract: the numbers of the frame.
-use borrow.Author.Needs.{needs}
 use Rattle.receiver.specs.Cuts.{cutTold}
 use Rattle.receiver.proofs.cutter.FrameCut.told.Statement.{statement}
 use Rattle.receiver.proofs.cutter.FrameCut.told.Tie as tie
