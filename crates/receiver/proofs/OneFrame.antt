@@ -5,6 +5,7 @@ use mathlib.Core.List.{List}
 use Prim.Native.Nat.{ℕ, _+_, _*_, _≤_}
 use native.Mathlib.Omega.{arith}
 use borrow.Author.Tests.{ne-eqb}
+use lib.Dec.{ltb}
 use lib.ListN.{length, take, drop, length-drop}
 use lib.Seq.{length-take-le, set-getD}
 use Rattle.identifiers.specs.Choice.{pick, either}
@@ -27,7 +28,7 @@ use Rattle.receiver.specs.declared.step.Outcome.the-variants.{Refused, O
 use Rattle.receiver.specs.Receptions.{closed}
 use Rattle.receiver.specs.Nodes.{receptionAt, withReception}
 use Rattle.receiver.specs.Frames.{judgedOf}
-use Rattle.receiver.specs.Steps.{regionAt, kept, shut, opened, takenStep, followed, stepOf, judgedPlace, stepBy, ownOf, receivedBy, receivedAt, receivedOf, writtenBy, bufferAt, bufferAfter}
+use Rattle.receiver.specs.Steps.{regionAt, kept, shut, opened, leftOf, takenStep, followed, stepOf, judgedPlace, stepBy, ownOf, receivedBy, receivedAt, receivedOf, writtenBy, bufferAt, bufferAfter}
 use Rattle.receiver.specs.Shown.{shownOf}
 use Rattle.receiver.specs.Changes.{closes, Does, Changes, toldLength}
 use Rattle.receiver.proofs.LawsFrames.{Fair, fair}
@@ -135,7 +136,7 @@ module _ (bytes buffer : List ℕ) (room : length buffer ≡ 1536) (r : Receptio
 
   shows-taken : (from : Position) → Holds (Shows bytes buffer) (takenStep r from stamp)
   unfolding takenStep shownOf regionAt
-  shows-taken from = by-test _ (λ a. record { holds = refl }) (λ a. record { holds = length-take-le (r .length) (drop (256 * placeOf from) buffer) (rw length-drop (omega (arith, place-below from))) })
+  shows-taken from = by-test (ltb 6 (leftOf r)) (λ a. record { holds = refl }) (λ a. record { holds = length-take-le (r .length) (drop (256 * placeOf from) buffer) (rw length-drop (omega (arith, place-below from))) })
 
   shows-followed : (from : Position) (number : ℕ) → Holds (Shows bytes buffer) (followed r from number (length bytes) stamp)
   unfolding followed shut

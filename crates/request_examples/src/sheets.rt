@@ -1,26 +1,30 @@
-// The count sheet at the limits of its length and of its fields: refusals 21 to 24.
+// The count sheet at the limits of its length and of its fields: its text, or refusals 21 to 24.
 use lines::decimal;
+use lines::front;
 use lines::say;
 use sheet::Basis;
 use sheet::basis_of;
-use sheet::judge;
+use sheet::print;
 
-fn judged(name: &[u8], input: &[u8]) {
+// The whole text of a sheet; of a long one its length and its last line.
+fn shown(name: &[u8], input: &[u8]) {
     say(b"sheet, ");
     say(name);
     say(b": ");
-    let told = judge(input).told();
-    if told.refusal == 0 {
-        say(b"accepted\n");
+    let mut page = [0u8; sheet::PAGE];
+    let end = print(input, &mut page);
+    let text = front(&page, end);
+    if text.len() < 100 {
+        say(text);
         return;
     }
-    say(b"refused ");
-    decimal(told.refusal as usize);
-    say(b" at ");
-    decimal(told.offset);
-    say(b"\n");
+    decimal(text.len());
+    say(b" bytes, ending in ");
+    let last = text.len() - 15;
+    say(&text[last..]);
 }
 
+// Position 1, mask 08, availability 7F and count 2.
 const READING: [u8; 17] = [
     0x01,
     0x00,
@@ -42,7 +46,7 @@ const READING: [u8; 17] = [
 ];
 
 fn reading(name: &[u8], input: &[u8; 17]) {
-    judged(name, input);
+    shown(name, input);
 }
 
 fn changed(name: &[u8], place: usize, byte: u8) {
@@ -53,15 +57,18 @@ fn changed(name: &[u8], place: usize, byte: u8) {
     reading(name, &input);
 }
 
-fn positions() {
+fn contents() {
     changed(b"position 0", 3, 0);
     changed(b"position 1", 3, 1);
     changed(b"position 5", 3, 5);
     changed(b"position 6", 3, 6);
+    changed(b"mask 80", 7, 0x80);
+    changed(b"count FF02", 15, 0xFF);
 }
 
 fn tags_and_lengths() {
     changed(b"tag 2 in place of 1", 0, 2);
+    changed(b"tag 9 in place of 2", 4, 9);
     changed(b"length 0 of the first field", 2, 0);
     changed(b"length 2 of the second field", 6, 2);
     changed(b"length 5 of the third field", 10, 5);
@@ -76,26 +83,38 @@ fn responses() {
     changed(b"availability 7E", 13, 0x7E);
 }
 
-fn fields() {
-    positions();
-    tags_and_lengths();
-    responses();
+// Where two refusals apply: the earliest field, then the lowest number.
+fn orders() {
+    shown(
+        b"tag 9, and more bytes named than are left",
+        b"\x09\x00\xFF\x03",
+    );
+    shown(b"two bytes of position 6", b"\x01\x00\x02\x06\x00");
+    shown(b"position 6, and no more", b"\x01\x00\x01\x06");
 }
 
 fn cuts() {
     let input = READING;
-    judged(b"1 byte", &input[..1]);
-    judged(b"3 bytes", &input[..3]);
-    judged(b"4 bytes", &input[..4]);
-    judged(b"16 bytes", &input[..16]);
-    judged(b"17 bytes", &input);
-    judged(b"no byte", b"");
+    shown(b"no byte", b"");
+    shown(b"1 byte", &input[..1]);
+    shown(b"3 bytes", &input[..3]);
+    shown(b"4 bytes", &input[..4]);
+    shown(b"6 bytes", &input[..6]);
+    shown(b"8 bytes", &input[..8]);
+    shown(b"16 bytes", &input[..16]);
+    shown(b"17 bytes", &input);
 }
 
+// 65,535 bytes are 3,855 readings; then one byte more.
 fn sizes() {
-    let input = [0u8; 65536];
-    judged(b"65,535 zeros", &input[..65535]);
-    judged(b"65,536 zeros", &input);
+    let mut input = [0u8; 65536];
+    let mut i = 0;
+    while i < 65535 {
+        input[i] = READING[i % 17];
+        i += 1;
+    }
+    shown(b"3,855 readings", &input[..65535]);
+    shown(b"one byte more", &input);
 }
 
 fn basis(name: &[u8], mask: u8, available: u8) {
@@ -109,7 +128,10 @@ fn basis(name: &[u8], mask: u8, available: u8) {
 }
 
 pub fn run() {
-    fields();
+    contents();
+    tags_and_lengths();
+    responses();
+    orders();
     cuts();
     sizes();
     basis(b"mask 80 of 7F", 0x80, 0x7F);

@@ -26,7 +26,8 @@ returns-2 : tie.Need-returns-2
 unfolding stepOf
 returns-2 c =
     let at-judged2 = c .before .before .before in
-    ((c .keep2 .ensures) ∙ taken _ (c .before .if1 .taken) refl ∙ at _ _ _ (at-judged2 .judged2 .given .1), unwritten _ _ _ _ (c .keep2 .ensures))
+    let entry = at-judged2 .before .before .before .before in
+    ((c .keep2 .ensures) ∙ taken _ (c .before .if1 .taken) refl ∙ at (entry .args .reception) _ _ (at-judged2 .judged2 .given .1), unwritten _ _ _ _ (c .keep2 .ensures))
 
 returns-3 : tie.Need-returns-3
 unfolding stepOf shut

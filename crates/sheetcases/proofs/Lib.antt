@@ -1,2 +1,0 @@
--- The program's laws, which belong to no one function.
-pub mod LawsCases

@@ -1,2 +1,0 @@
--- The root of the program's definitions.
-pub mod Cases
