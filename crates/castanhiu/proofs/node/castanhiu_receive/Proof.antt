@@ -26,4 +26,12 @@ returns c =
     (rw (c .told .ensures) (ap receivedTold (stored-moved (entry .args .node) _ _ _ _ (at-move-reception .move-reception .ensures .0))), (at-move-reception .move-reception .ensures .1))
 
 pub castanhiu-receive-spec : {M : Type 1} → statement M
-castanhiu-receive-spec = tie.close (tie.spec (λ c κs. tt) (λ c κs. tt) mul-reception element-set-from-reception (λ c. search needs) returns)
+castanhiu-receive-spec =
+    tie.close
+    (tie.spec
+    (λ c κs. tt)
+    (λ c κs. tt)
+    mul-reception
+    element-set-from-reception
+    (λ c. search needs)
+    returns)

@@ -9,12 +9,12 @@ use Rattle.castanhiu.proofs.vehicle.castanhiu_route.Tie as tie
 
 returns : tie.Need-returns
 unfolding routeFrom
-returns c = (c .told .ensures) ∙ ap routedTold (taken _ (eq-eqb _ _ (c .before .before .if1 .taken)) (c .before .route .ensures))
+returns c = (c .told .ensures) ∙ ap routedTold (taken _ (eq-eqb _ 0 (c .before .before .if1 .taken)) (c .before .route .ensures))
 
 returns-2 : tie.Need-returns-2
 unfolding routeFrom
 returns-2 c =
-    (c .told2 .ensures) ∙ ap routedTold (passed _ (ne-eqb _ _ (c .before .before .before .if1 .left)) (taken _ (eq-eqb _ _ (c .before .before .if2 .taken)) (c .before .route2 .ensures)))
+    (c .told2 .ensures) ∙ ap routedTold (passed _ (ne-eqb _ _ (c .before .before .before .if1 .left)) (taken _ (eq-eqb _ 1 (c .before .before .if2 .taken)) (c .before .route2 .ensures)))
 
 returns-3 : tie.Need-returns-3
 unfolding routeFrom

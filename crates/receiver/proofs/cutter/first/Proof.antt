@@ -11,4 +11,11 @@ returns c =
     (c .frame .ensures) ∙ headed-three _ _ _ _ _ (entry .args .message .now) (entry .pre .0) (c .before .before .store .ensures)
 
 pub first-spec : {M : Type 1} → statement M
-first-spec = tie.close (tie.spec (λ c. search needs) (λ c. search needs) (λ c κs. search needs) (λ c κs. search needs) returns)
+first-spec =
+    tie.close
+    (tie.spec
+    (λ c. search needs)
+    (λ c. search needs)
+    (λ c κs. search needs)
+    (λ c κs. search needs)
+    returns)

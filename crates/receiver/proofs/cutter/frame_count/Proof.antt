@@ -22,7 +22,9 @@ returns-3 c = passed _ (sym (right-decides (ne-eqb _ _ (c .before .before .if1 .
 
 returns-4 : tie.Need-returns-4
 unfolding framesOf
-returns-4 c = passed _ (sym (right-decides (ne-eqb _ _ (c .before .before .if1 .left)) (sym (le-ltb _ _ (c .before .if2 .left))))) (passed _ (lt-leb _ _ (c .if3 .left)) (omega arith))
+returns-4 c =
+    passed _ (sym (right-decides (ne-eqb _ _ (c .before .before .if1 .left)) (sym (le-ltb _ _ (c .before .if2 .left)))))
+    (passed _ (lt-leb _ _ (c .if3 .left)) (omega arith))
 
 pub frame-count-spec : {M : Type 1} → statement M
 frame-count-spec = tie.close (tie.spec returns returns-2 returns-3 (λ c. search needs) returns-4)

@@ -65,35 +65,37 @@ returns-3 c =
     let at-of-address = at-from .before .before in
     let at-if1 = at-of-address .before in
     let entry = at-if1 .before .before .before .before .before in
-    by-vehicle (entry .args .own) (entry .args .unit) (entry .args .fields) _ _ (not-false _ (at-if1 .if1 .left)) (sym (at-of-address .of-address .ensures) ∙ (at-from .from .given .1))
-    (rung-6 _ _ _ _ _ (sym (c .before .before .place .ensures) ∙ (c .if2 .taken) ∙ (c .before .place2 .ensures)))
+    let vehicle = sym (at-of-address .of-address .ensures) ∙ (at-from .from .given .1) in
+    let own = rw (c .before .before .place .ensures, c .before .place2 .ensures) at (c .if2 .taken) in
+    by-vehicle (entry .args .own) (entry .args .unit) (entry .args .fields) _ _ (not-false _ (at-if1 .if1 .left)) vehicle (rung-6 _ _ _ _ _ own)
 
 returns-4 : tie.Need-returns-4
 unfolding addressedOf
 returns-4 c =
     let at-if2 = c .before .before .before in
-    let at-place2 = at-if2 .before in
-    let at-place = at-place2 .before in
-    let at-from = at-place .before .before in
+    let at-from = at-if2 .before .before .before .before in
     let at-of-address = at-from .before .before in
     let at-if1 = at-of-address .before in
     let entry = at-if1 .before .before .before .before .before in
-    by-vehicle (entry .args .own) (entry .args .unit) (entry .args .fields) _ _ (not-false _ (at-if1 .if1 .left)) (sym (at-of-address .of-address .ensures) ∙ (at-from .from .given .1))
-    (rung-7 _ _ _ _ _ (λ z. (at-if2 .if2 .left) ((at-place .place .ensures) ∙ z ∙ sym (at-place2 .place2 .ensures))) (λ z. (c .if3 .taken) (z ∙ sym (c .before .before .destination .ensures))))
+    let vehicle = sym (at-of-address .of-address .ensures) ∙ (at-from .from .given .1) in
+    let other = rw (at-if2 .before .before .place .ensures, at-if2 .before .place2 .ensures) at (at-if2 .if2 .left) in
+    let elsewhere = rw (c .before .before .destination .ensures) at (c .if3 .taken) in
+    by-vehicle (entry .args .own) (entry .args .unit) (entry .args .fields) _ _ (not-false _ (at-if1 .if1 .left)) vehicle (rung-7 _ _ _ _ _ other elsewhere)
 
 returns-5 : tie.Need-returns-5
 unfolding addressedOf
 returns-5 c =
     let at-destination = c .before .before .before .before in
     let at-if2 = at-destination .before in
-    let at-place2 = at-if2 .before in
-    let at-place = at-place2 .before in
-    let at-from = at-place .before .before in
+    let at-from = at-if2 .before .before .before .before in
     let at-of-address = at-from .before .before in
     let at-if1 = at-of-address .before in
     let entry = at-if1 .before .before .before .before .before in
-    by-vehicle (entry .args .own) (entry .args .unit) (entry .args .fields) _ _ (not-false _ (at-if1 .if1 .left)) (sym (at-of-address .of-address .ensures) ∙ (at-from .from .given .1))
-    (rung-8 _ _ _ _ _ (λ z. (at-if2 .if2 .left) ((at-place .place .ensures) ∙ z ∙ sym (at-place2 .place2 .ensures))) ((c .before .before .if3 .left) ∙ (at-destination .destination .ensures)) (sym (c .before .is-unit .ensures) ∙ not-true _ (c .if4 .taken)))
+    let vehicle = sym (at-of-address .of-address .ensures) ∙ (at-from .from .given .1) in
+    let other = rw (at-if2 .before .before .place .ensures, at-if2 .before .place2 .ensures) at (at-if2 .if2 .left) in
+    let here = (c .before .before .if3 .left) ∙ (at-destination .destination .ensures) in
+    let other-unit = sym (c .before .is-unit .ensures) ∙ not-true _ (c .if4 .taken) in
+    by-vehicle (entry .args .own) (entry .args .unit) (entry .args .fields) _ _ (not-false _ (at-if1 .if1 .left)) vehicle (rung-8 _ _ _ _ _ other here other-unit)
 
 returns-6 : tie.Need-returns-6
 unfolding addressedOf
@@ -101,14 +103,16 @@ returns-6 c =
     let at-if3 = c .before .before .before in
     let at-destination = at-if3 .before .before in
     let at-if2 = at-destination .before in
-    let at-place2 = at-if2 .before in
-    let at-place = at-place2 .before in
-    let at-from = at-place .before .before in
+    let at-from = at-if2 .before .before .before .before in
     let at-of-address = at-from .before .before in
     let at-if1 = at-of-address .before in
     let entry = at-if1 .before .before .before .before .before in
-    by-vehicle (entry .args .own) (entry .args .unit) (entry .args .fields) _ _ (not-false _ (at-if1 .if1 .left)) (sym (at-of-address .of-address .ensures) ∙ (at-from .from .given .1))
-    ((c .kind .ensures) ∙ rung-kind _ _ _ _ _ (λ z. (at-if2 .if2 .left) ((at-place .place .ensures) ∙ z ∙ sym (at-place2 .place2 .ensures))) ((at-if3 .if3 .left) ∙ (at-destination .destination .ensures)) (sym (c .before .before .is-unit .ensures) ∙ not-false _ (c .before .if4 .left)))
+    let vehicle = sym (at-of-address .of-address .ensures) ∙ (at-from .from .given .1) in
+    let other = rw (at-if2 .before .before .place .ensures, at-if2 .before .place2 .ensures) at (at-if2 .if2 .left) in
+    let here = (at-if3 .if3 .left) ∙ (at-destination .destination .ensures) in
+    let own-unit = sym (c .before .before .is-unit .ensures) ∙ not-false _ (c .before .if4 .left) in
+    by-vehicle (entry .args .own) (entry .args .unit) (entry .args .fields) _ _ (not-false _ (at-if1 .if1 .left)) vehicle
+    ((c .kind .ensures) ∙ rung-kind _ _ _ _ _ other here own-unit)
 
 pub addressed-spec : {M : Type 1} → statement M
 addressed-spec =

@@ -18,4 +18,12 @@ returns-2 c =
     (c .addressed .ensures) ∙ ap (judgedRead _ _ _) (sym (sym (at-of-frame .of-frame .ensures) ∙ (c .before .before .fields .given .1)))
 
 pub judge-spec : {M : Type 1} → statement M
-judge-spec = tie.close (tie.spec (λ c κs. tt) (λ c. search needs) (λ c. search needs) (λ c κs. tt) returns returns-2)
+judge-spec =
+    tie.close
+    (tie.spec
+    (λ c κs. tt)
+    (λ c. search needs)
+    (λ c. search needs)
+    (λ c κs. tt)
+    returns
+    returns-2)

@@ -21,21 +21,30 @@ returns-3 : tie.Need-returns-3
 unfolding kindOf
 returns-3 c =
     let at-if1 = c .before .before .before .before in
-    passed _ (le-ltb _ _ (at-if1 .if1 .left)) (passed _ (ne-eqb _ _ (c .before .if2 .left)) (taken _ (c .if3 .taken) refl))
+    passed _ (le-ltb _ _ (at-if1 .if1 .left))
+    (passed _ (ne-eqb _ _ (c .before .if2 .left))
+    (taken _ (c .if3 .taken) refl))
 
 returns-4 : tie.Need-returns-4
 unfolding kindOf
 returns-4 c =
     let at-if2 = c .before .before .before in
     let at-if1 = at-if2 .before .before .before in
-    passed _ (le-ltb _ _ (at-if1 .if1 .left)) (passed _ (ne-eqb _ _ (at-if2 .if2 .left)) (passed _ (c .before .before .if3 .left) (taken _ (eq-eqb _ _ (c .before .if4 .taken)) (c .first .ensures))))
+    passed _ (le-ltb _ _ (at-if1 .if1 .left))
+    (passed _ (ne-eqb _ _ (at-if2 .if2 .left))
+    (passed _ (c .before .before .if3 .left)
+    (taken _ (eq-eqb _ _ (c .before .if4 .taken)) (c .first .ensures))))
 
 returns-5 : tie.Need-returns-5
 unfolding kindOf
 returns-5 c =
     let at-if2 = c .before .before .before in
     let at-if1 = at-if2 .before .before .before in
-    passed _ (le-ltb _ _ (at-if1 .if1 .left)) (passed _ (ne-eqb _ _ (at-if2 .if2 .left)) (passed _ (c .before .before .if3 .left) (passed _ (ne-eqb _ _ (c .before .if4 .left)) (taken _ (eq-eqb _ _ (c .if5 .taken)) refl))))
+    passed _ (le-ltb _ _ (at-if1 .if1 .left))
+    (passed _ (ne-eqb _ _ (at-if2 .if2 .left))
+    (passed _ (c .before .before .if3 .left)
+    (passed _ (ne-eqb _ _ (c .before .if4 .left))
+    (taken _ (eq-eqb _ _ (c .if5 .taken)) refl))))
 
 returns-6 : tie.Need-returns-6
 unfolding kindOf
@@ -43,7 +52,12 @@ returns-6 c =
     let at-if3 = c .before .before .before in
     let at-if2 = at-if3 .before in
     let at-if1 = at-if2 .before .before .before in
-    passed _ (le-ltb _ _ (at-if1 .if1 .left)) (passed _ (ne-eqb _ _ (at-if2 .if2 .left)) (passed _ (at-if3 .if3 .left) (passed _ (ne-eqb _ _ (c .before .before .if4 .left)) (passed _ (ne-eqb _ _ (c .before .if5 .left)) (taken _ (eq-eqb _ _ (c .if6 .taken)) refl)))))
+    passed _ (le-ltb _ _ (at-if1 .if1 .left))
+    (passed _ (ne-eqb _ _ (at-if2 .if2 .left))
+    (passed _ (at-if3 .if3 .left)
+    (passed _ (ne-eqb _ _ (c .before .before .if4 .left))
+    (passed _ (ne-eqb _ _ (c .before .if5 .left))
+    (taken _ (eq-eqb _ _ (c .if6 .taken)) refl)))))
 
 returns-7 : tie.Need-returns-7
 unfolding kindOf
@@ -51,7 +65,12 @@ returns-7 c =
     let at-if3 = c .before .before .before in
     let at-if2 = at-if3 .before in
     let at-if1 = at-if2 .before .before .before in
-    passed _ (le-ltb _ _ (at-if1 .if1 .left)) (passed _ (ne-eqb _ _ (at-if2 .if2 .left)) (passed _ (at-if3 .if3 .left) (passed _ (ne-eqb _ _ (c .before .before .if4 .left)) (passed _ (ne-eqb _ _ (c .before .if5 .left)) (passed _ (ne-eqb _ _ (c .if6 .left)) refl)))))
+    passed _ (le-ltb _ _ (at-if1 .if1 .left))
+    (passed _ (ne-eqb _ _ (at-if2 .if2 .left))
+    (passed _ (at-if3 .if3 .left)
+    (passed _ (ne-eqb _ _ (c .before .before .if4 .left))
+    (passed _ (ne-eqb _ _ (c .before .if5 .left))
+    (passed _ (ne-eqb _ _ (c .if6 .left)) refl)))))
 
 pub kind-spec : {M : Type 1} → statement M
 kind-spec =

@@ -14,8 +14,8 @@ returns-2 : tie.Need-returns-2
 returns-2 c =
     let at-after = c .before .before .before in
     let at-if1 = at-after .before in
-    let at-is-sound = at-if1 .before in
-    (c .refused2 .ensures) ∙ sym (address-15 _ _ (sym (at-is-sound .is-sound .ensures) ∙ not-false _ (at-if1 .if1 .left)) _ (sym (at-after .after .ensures) ∙ (c .before .enum-told .given .1)))
+    let sound = sym (at-if1 .before .is-sound .ensures) ∙ not-false _ (at-if1 .if1 .left) in
+    (c .refused2 .ensures) ∙ sym (address-15 _ _ sound _ (sym (at-after .after .ensures) ∙ (c .before .enum-told .given .1)))
 
 returns-3 : tie.Need-returns-3
 unfolding done
@@ -23,9 +23,11 @@ returns-3 c =
     let at-position = c .before .before .before .before in
     let at-after = at-position .before .before in
     let at-if1 = at-after .before in
-    let at-is-sound = at-if1 .before in
-    let entry = at-is-sound .before in
-    sym (same-position (entry .args .node) (entry .args .source) (sym (at-is-sound .is-sound .ensures) ∙ not-false _ (at-if1 .if1 .left)) _ (sym (at-after .after .ensures) ∙ (at-position .position .given .1)) (sym (c .before .before .place .ensures) ∙ (c .if2 .taken)))
+    let entry = at-if1 .before .before in
+    let sound = sym (at-if1 .before .is-sound .ensures) ∙ not-false _ (at-if1 .if1 .left) in
+    let after = sym (at-after .after .ensures) ∙ (at-position .position .given .1) in
+    let same = sym (c .before .before .place .ensures) ∙ (c .if2 .taken) in
+    sym (same-position (entry .args .node) (entry .args .source) sound _ after same)
 
 returns-4 : tie.Need-returns-4
 unfolding done
@@ -34,10 +36,11 @@ returns-4 c =
     let at-position = at-place .before .before in
     let at-after = at-position .before .before in
     let at-if1 = at-after .before in
-    let at-is-sound = at-if1 .before in
-    let entry = at-is-sound .before in
-    rw ((c .all-closed .ensures), (at-place .place .ensures))
-    (sym (new-position (entry .args .node) (entry .args .source) (sym (at-is-sound .is-sound .ensures) ∙ not-false _ (at-if1 .if1 .left)) _ (sym (at-after .after .ensures) ∙ (at-position .position .given .1)) (λ z. (c .before .if2 .left) ((at-place .place .ensures) ∙ z))))
+    let entry = at-if1 .before .before in
+    let sound = sym (at-if1 .before .is-sound .ensures) ∙ not-false _ (at-if1 .if1 .left) in
+    let after = sym (at-after .after .ensures) ∙ (at-position .position .given .1) in
+    let another = rw (at-place .place .ensures) at (c .before .if2 .left) in
+    rw ((c .all-closed .ensures), (at-place .place .ensures)) (sym (new-position (entry .args .node) (entry .args .source) sound _ after another))
 
 pub take-address-spec : {M : Type 1} → statement M
 take-address-spec =

@@ -26,8 +26,11 @@ sub-at-most-six c =
 returns-2 : tie.Need-returns-2
 unfolding followed leftOf doneOf
 returns-2 c =
-    let at-if1 = c .before .before .before in
-    (passed _ (ne-eqb _ _ (at-if1 .if1 .left)) (taken _ (lt-ltb _ _ (rw (c .before .before .at-most-six .ensures) at (c .before .if2 .taken))) (c .keep2 .ensures)), unwritten _ _ _ _ (c .keep2 .ensures))
+    let at-if1 = c .before .before .before in (
+      passed _ (ne-eqb _ _ (at-if1 .if1 .left))
+          (taken _ (lt-ltb _ _ (rw (c .before .before .at-most-six .ensures) at (c .before .if2 .taken))) (c .keep2 .ensures)),
+      unwritten _ _ _ _ (c .keep2 .ensures),
+    )
 
 returns-3 : tie.Need-returns-3
 unfolding followed leftOf doneOf shut

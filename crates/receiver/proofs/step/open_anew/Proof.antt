@@ -11,4 +11,11 @@ returns c =
     (rw (at-place .place .ensures .0), (c .before .before .store .ensures))
 
 pub open-anew-spec : {M : Type 1} → statement M
-open-anew-spec = tie.close (tie.spec (λ c κs. search needs) (λ c. search needs) (λ c κs. search needs) (λ c. search needs) returns)
+open-anew-spec =
+    tie.close
+    (tie.spec
+    (λ c κs. search needs)
+    (λ c. search needs)
+    (λ c κs. search needs)
+    (λ c. search needs)
+    returns)

@@ -24,4 +24,11 @@ returns c =
     (stored-moved (entry .args .t1) _ _ _ _ (at-move-reception .move-reception .ensures .0), (at-move-reception .move-reception .ensures .1))
 
 pub receive-spec : {M : Type 1} → statement M
-receive-spec = tie.close (tie.spec (λ c κs. tt) mul-reception element-set-from-reception (λ c. search needs) returns)
+receive-spec =
+    tie.close
+    (tie.spec
+    (λ c κs. tt)
+    mul-reception
+    element-set-from-reception
+    (λ c. search needs)
+    returns)

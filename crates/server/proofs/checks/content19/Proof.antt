@@ -1,14 +1,12 @@
 -- `content19` meets its contract: a report has four bytes for each code that is listed.
-use mathlib.Core.Path.{_≡_, refl, sym, ap, _∙_}
-use Prim.Native.Nat.{ℕ, _+_}
+use mathlib.Core.Path.{refl, sym, _∙_}
+use Prim.Native.Nat.{_+_}
 use native.Mathlib.Omega.{arith}
 use borrow.Author.Tests.{lt-ltb, le-ltb}
 use borrow.Author.Needs.{needs}
 use lib.Dec.{eqb}
 use lib.ListN.{length}
 use Rattle.identifiers.proofs.LawsChoice.{taken, passed}
-use Rattle.server.specs.Faults.{countListed}
-use Rattle.server.specs.Requests.{subFunctionOf, maskOf}
 use Rattle.server.specs.Server.{faultsOf, contentOf19}
 use Rattle.server.proofs.LawsFaults.{count-listed-le}
 use Rattle.server.proofs.LawsServer.{length-faults, content-count}
@@ -39,7 +37,7 @@ returns-2 c =
     let S = (entry .args .statuses) .now in
     let n = (entry .args .count) in
     let R = (entry .args .request) .now in
-    let counted : (c .before .count-listed .result) ≡ countListed S (eqb (subFunctionOf R) 0x0A) (maskOf R) n = (c .before .count-listed .ensures) ∙ ap (λ (s : ℕ). countListed S (eqb s 0x0A) (c .before .before .mask .result) n) (at-sub-function .sub-function .ensures) ∙ ap (λ (m : ℕ). countListed S (eqb (subFunctionOf R) 0x0A) m n) (c .before .before .mask .ensures) in
+    let counted = rw (at-sub-function .sub-function .ensures, c .before .before .mask .ensures) at (c .before .count-listed .ensures) in
     let e = length-faults ((entry .args .codes) .now) S n R (λ q. (at-if1 .if1 .left) ((at-sub-function .sub-function .ensures) ∙ q)) in
     taken _ (lt-ltb 255 (3 + length (faultsOf ((entry .args .codes) .now) S n R)) (omega (arith, e, counted, (c .if2 .taken)))) refl
 
@@ -52,7 +50,7 @@ returns-3 c =
     let S = (entry .args .statuses) .now in
     let n = (entry .args .count) in
     let R = (entry .args .request) .now in
-    let counted : (c .before .count-listed .result) ≡ countListed S (eqb (subFunctionOf R) 0x0A) (maskOf R) n = (c .before .count-listed .ensures) ∙ ap (λ (s : ℕ). countListed S (eqb s 0x0A) (c .before .before .mask .result) n) (at-sub-function .sub-function .ensures) ∙ ap (λ (m : ℕ). countListed S (eqb (subFunctionOf R) 0x0A) m n) (c .before .before .mask .ensures) in
+    let counted = rw (at-sub-function .sub-function .ensures, c .before .before .mask .ensures) at (c .before .count-listed .ensures) in
     let e = length-faults ((entry .args .codes) .now) S n R (λ q. (at-if1 .if1 .left) ((at-sub-function .sub-function .ensures) ∙ q)) in
     passed _ (le-ltb 255 (3 + length (faultsOf ((entry .args .codes) .now) S n R)) (omega (arith, e, counted, (c .if2 .left)))) refl
 

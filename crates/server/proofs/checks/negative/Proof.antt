@@ -1,9 +1,7 @@
 -- `negative` meets its contract: the form, then the content of the service.
-use mathlib.Core.Path.{refl, sym, ap, _∙_}
-use Prim.Native.Nat.{ℕ}
+use mathlib.Core.Path.{refl, sym, _∙_}
 use borrow.Author.Tests.{eq-eqb, ne-eqb}
 use borrow.Author.Needs.{needs}
-use lib.Dec.{eqb}
 use Rattle.identifiers.proofs.LawsChoice.{taken, passed}
 use Rattle.server.specs.Server.{contentFields, negativeFields}
 use Rattle.server.proofs.LawsRequests.{length-14}
@@ -12,7 +10,7 @@ use Rattle.server.proofs.checks.negative.Tie as tie
 
 returns : tie.Need-returns
 unfolding negativeFields
-returns c = passed _ (ap (λ (x : ℕ). eqb x 0) (sym (c .before .form .ensures)) ∙ ne-eqb _ _ (c .if1 .taken)) (c .before .form .ensures)
+returns c = passed _ (rw (c .before .form .ensures) at (ne-eqb _ 0 (c .if1 .taken))) (c .before .form .ensures)
 
 content14-requires : tie.Need-content14-requires
 content14-requires c κs =
@@ -23,34 +21,42 @@ content14-requires c κs =
 returns-2 : tie.Need-returns-2
 unfolding negativeFields contentFields
 returns-2 c =
-    let at-if1 = c .before .before .before in
-    let at-form = at-if1 .before in
-    taken _ (eq-eqb _ 0 (sym (at-form .form .ensures) ∙ (at-if1 .if1 .left))) (taken _ (eq-eqb _ 0x14 (sym (c .before .before .service .ensures) ∙ (c .before .if2 .taken))) (c .content14 .ensures))
+    let at-service = c .before .before in
+    let at-if1 = at-service .before in
+    taken _ (rw (at-if1 .before .form .ensures) at (eq-eqb _ 0 (at-if1 .if1 .left)))
+    (taken _ (rw (at-service .service .ensures) at (eq-eqb _ 0x14 (c .before .if2 .taken))) (c .content14 .ensures))
 
 returns-3 : tie.Need-returns-3
 unfolding negativeFields contentFields
 returns-3 c =
     let at-service = c .before .before .before in
+    let service = at-service .service .ensures in
     let at-if1 = at-service .before in
-    let at-form = at-if1 .before in
-    taken _ (eq-eqb _ 0 (sym (at-form .form .ensures) ∙ (at-if1 .if1 .left))) (passed _ (ap (λ (x : ℕ). eqb x 0x14) (sym (at-service .service .ensures)) ∙ ne-eqb _ _ (c .before .before .if2 .left)) (taken _ (eq-eqb _ 0x19 (sym (at-service .service .ensures) ∙ (c .before .if3 .taken))) (c .content19 .ensures)))
+    taken _ (rw (at-if1 .before .form .ensures) at (eq-eqb _ 0 (at-if1 .if1 .left)))
+    (passed _ (rw service at (ne-eqb _ 0x14 (c .before .before .if2 .left)))
+    (taken _ (rw service at (eq-eqb _ 0x19 (c .before .if3 .taken))) (c .content19 .ensures)))
 
 returns-4 : tie.Need-returns-4
 unfolding negativeFields contentFields
 returns-4 c =
     let at-if2 = c .before .before .before in
-    let at-service = at-if2 .before in
-    let at-if1 = at-service .before in
-    let at-form = at-if1 .before in
-    taken _ (eq-eqb _ 0 (sym (at-form .form .ensures) ∙ (at-if1 .if1 .left))) (passed _ (ap (λ (x : ℕ). eqb x 0x14) (sym (at-service .service .ensures)) ∙ ne-eqb _ _ (at-if2 .if2 .left)) (passed _ (ap (λ (x : ℕ). eqb x 0x19) (sym (at-service .service .ensures)) ∙ ne-eqb _ _ (c .before .before .if3 .left)) (taken _ (eq-eqb _ 0x22 (sym (at-service .service .ensures) ∙ (c .before .if4 .taken))) (c .content22 .ensures))))
+    let service = at-if2 .before .service .ensures in
+    let at-if1 = at-if2 .before .before in
+    taken _ (rw (at-if1 .before .form .ensures) at (eq-eqb _ 0 (at-if1 .if1 .left)))
+    (passed _ (rw service at (ne-eqb _ 0x14 (at-if2 .if2 .left)))
+    (passed _ (rw service at (ne-eqb _ 0x19 (c .before .before .if3 .left)))
+    (taken _ (rw service at (eq-eqb _ 0x22 (c .before .if4 .taken))) (c .content22 .ensures))))
 
 returns-5 : tie.Need-returns-5
 unfolding negativeFields contentFields
 returns-5 c =
     let at-service = c .before .before .before in
+    let service = at-service .service .ensures in
     let at-if1 = at-service .before in
-    let at-form = at-if1 .before in
-    taken _ (eq-eqb _ 0 (sym (at-form .form .ensures) ∙ (at-if1 .if1 .left))) (passed _ (ap (λ (x : ℕ). eqb x 0x14) (sym (at-service .service .ensures)) ∙ ne-eqb _ _ (c .before .before .if2 .left)) (passed _ (ap (λ (x : ℕ). eqb x 0x19) (sym (at-service .service .ensures)) ∙ ne-eqb _ _ (c .before .if3 .left)) (passed _ (ap (λ (x : ℕ). eqb x 0x22) (sym (at-service .service .ensures)) ∙ ne-eqb _ _ (c .if4 .left)) refl)))
+    taken _ (rw (at-if1 .before .form .ensures) at (eq-eqb _ 0 (at-if1 .if1 .left)))
+    (passed _ (rw service at (ne-eqb _ 0x14 (c .before .before .if2 .left)))
+    (passed _ (rw service at (ne-eqb _ 0x19 (c .before .if3 .left)))
+    (passed _ (rw service at (ne-eqb _ 0x22 (c .if4 .left))) refl)))
 
 pub negative-spec : {M : Type 1} → statement M
 negative-spec = tie.close (tie.spec

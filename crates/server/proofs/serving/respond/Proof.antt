@@ -4,8 +4,8 @@ use Prim.Native.Nat.{ℕ}
 use borrow.Author.Tests.{not-true, not-false}
 use borrow.Author.Needs.{needs}
 use Rattle.identifiers.specs.Bytes.{written}
-use Rattle.server.specs.Requests.{serviceOf, silentOn}
-use Rattle.server.specs.Server.{negativeOf, negativeBytes, positiveOf, withStatuses, recordOf}
+use Rattle.server.specs.Requests.{serviceOf}
+use Rattle.server.specs.Server.{negativeOf, negativeBytes, positiveOf, withStatuses}
 use Rattle.server.proofs.LawsTrailer.{sound-has}
 use Rattle.server.proofs.LawsServer.{positive-form, right-lengths, ends, outcome-1, outcome-17, outcome-silent, outcome-negative, outcome-positive}
 use Rattle.server.specs.declared.serving.Answer.the-variants.{Sent}
@@ -16,18 +16,16 @@ use Rattle.server.proofs.serving.respond.Tie as tie
 returns : tie.Need-returns
 returns c =
     let entry = c .before .before .before .before in
-    let t = recordOf ((entry .args .codes) .now) (entry .args .t3) (entry .args .count) (entry .args .availability) ((entry .args .identifiers) .now) ((entry .args .lengths) .now) ((entry .args .bytes) .now) (entry .args .held) in
-    let law = outcome-1 t ((entry .args .request) .now) (entry .args .functional) ((entry .args .response) .now) (sym (entry .pre) ∙ not-true _ (c .before .if1 .taken)) in
-    ends law ((c .leaves .ensures) .0, ((c .leaves .ensures) .1, refl))
+    let broken = sym (entry .pre) ∙ not-true _ (c .before .if1 .taken) in
+    ends (outcome-1 _ _ (entry .args .functional) _ broken) ((c .leaves .ensures) .0, ((c .leaves .ensures) .1, refl))
 
 returns-2 : tie.Need-returns-2
 returns-2 c =
     let at-if1 = c .before .before .before in
     let entry = at-if1 .before .before .before in
     let kept = sym (entry .pre) ∙ not-false _ (at-if1 .if1 .left) in
-    let t = recordOf ((entry .args .codes) .now) (entry .args .t3) (entry .args .count) (entry .args .availability) ((entry .args .identifiers) .now) ((entry .args .lengths) .now) ((entry .args .bytes) .now) (entry .args .held) in
-    let law = outcome-17 t ((entry .args .request) .now) (entry .args .functional) ((entry .args .response) .now) kept (sym (c .before .before .wrong-lengths .ensures) ∙ (c .before .if2 .taken)) in
-    ends law ((c .leaves2 .ensures) .0, ((c .leaves2 .ensures) .1, refl))
+    let wrong = sym (c .before .before .wrong-lengths .ensures) ∙ (c .before .if2 .taken) in
+    ends (outcome-17 _ _ (entry .args .functional) _ kept wrong) ((c .leaves2 .ensures) .0, ((c .leaves2 .ensures) .1, refl))
 
 negative-requires : tie.Need-negative-requires
 negative-requires c κs =
@@ -47,9 +45,9 @@ returns-3 c =
     let at-if1 = at-wrong-lengths .before in
     let entry = at-if1 .before .before .before in
     let kept = sym (entry .pre) ∙ not-false _ (at-if1 .if1 .left) in
-    let t = recordOf ((entry .args .codes) .now) (entry .args .t3) (entry .args .count) (entry .args .availability) ((entry .args .identifiers) .now) ((entry .args .lengths) .now) ((entry .args .bytes) .now) (entry .args .held) in
-    let law = outcome-silent t ((entry .args .request) .now) (entry .args .functional) ((entry .args .response) .now) kept (sym (at-wrong-lengths .wrong-lengths .ensures) ∙ (at-if2 .if2 .left)) (ap (silentOn ((entry .args .request) .now) (entry .args .functional)) (sym (at-negative .negative .ensures)) ∙ sym (c .before .before .silent .ensures) ∙ (c .before .if3 .taken)) in
-    ends law ((c .leaves3 .ensures) .0, ((c .leaves3 .ensures) .1, refl))
+    let right = sym (at-wrong-lengths .wrong-lengths .ensures) ∙ (at-if2 .if2 .left) in
+    let silent = rw (c .before .before .silent .ensures, at-negative .negative .ensures) at (c .before .if3 .taken) in
+    ends (outcome-silent _ _ (entry .args .functional) _ kept right silent) ((c .leaves3 .ensures) .0, ((c .leaves3 .ensures) .1, refl))
 
 put-negative-requires : tie.Need-put-negative-requires
 put-negative-requires c κs =
@@ -71,11 +69,12 @@ returns-4 c =
     let at-if1 = at-wrong-lengths .before in
     let entry = at-if1 .before .before .before in
     let kept = sym (entry .pre) ∙ not-false _ (at-if1 .if1 .left) in
-    let t = recordOf ((entry .args .codes) .now) (entry .args .t3) (entry .args .count) (entry .args .availability) ((entry .args .identifiers) .now) ((entry .args .lengths) .now) ((entry .args .bytes) .now) (entry .args .held) in
-    let law = outcome-negative t ((entry .args .request) .now) (entry .args .functional) ((entry .args .response) .now) kept (sym (at-wrong-lengths .wrong-lengths .ensures) ∙ (at-if2 .if2 .left)) (ap (silentOn ((entry .args .request) .now) (entry .args .functional)) (sym (at-negative .negative .ensures)) ∙ sym (at-silent .silent .ensures) ∙ (at-if3 .if3 .left)) (λ q. (at-if4 .if4 .taken) ((at-negative .negative .ensures) ∙ q)) in
+    let right = sym (at-wrong-lengths .wrong-lengths .ensures) ∙ (at-if2 .if2 .left) in
+    let spoken = rw (at-silent .silent .ensures, at-negative .negative .ensures) at (at-if3 .if3 .left) in
+    let law = outcome-negative _ _ (entry .args .functional) _ kept right spoken (λ q. (at-if4 .if4 .taken) ((at-negative .negative .ensures) ∙ q)) in
     let put = (at-put-negative .put-negative .ensures) in
-    let bytes = ap (λ (s : ℕ). negativeBytes s (at-negative .negative .result)) (at-service .service .ensures) ∙ ap (negativeBytes (serviceOf ((entry .args .request) .now))) (at-negative .negative .ensures) in
-    ends law ((c .leaves4 .ensures) .0, ((c .leaves4 .ensures) .1 ∙ ap Sent (put .ends), put .holds ∙ ap (written ((entry .args .response) .now) 0) bytes))
+    let holds = rw (at-service .service .ensures, at-negative .negative .ensures) at (put .holds) in
+    ends law ((c .leaves4 .ensures) .0, ((c .leaves4 .ensures) .1 ∙ ap Sent (put .ends), holds))
 
 put-positive-requires : tie.Need-put-positive-requires
 put-positive-requires c κs =
@@ -111,8 +110,9 @@ returns-5 c =
     let at-if1 = at-wrong-lengths .before in
     let entry = at-if1 .before .before .before in
     let kept = sym (entry .pre) ∙ not-false _ (at-if1 .if1 .left) in
-    let t = recordOf ((entry .args .codes) .now) (entry .args .t3) (entry .args .count) (entry .args .availability) ((entry .args .identifiers) .now) ((entry .args .lengths) .now) ((entry .args .bytes) .now) (entry .args .held) in
-    let law = outcome-positive t ((entry .args .request) .now) (entry .args .functional) ((entry .args .response) .now) kept (sym (at-wrong-lengths .wrong-lengths .ensures) ∙ (at-if2 .if2 .left)) (ap (silentOn ((entry .args .request) .now) (entry .args .functional)) (sym (at-negative .negative .ensures)) ∙ sym (at-silent .silent .ensures) ∙ (at-if3 .if3 .left)) (sym (at-negative .negative .ensures) ∙ (at-if4 .if4 .left)) in
+    let right = sym (at-wrong-lengths .wrong-lengths .ensures) ∙ (at-if2 .if2 .left) in
+    let spoken = rw (at-silent .silent .ensures, at-negative .negative .ensures) at (at-if3 .if3 .left) in
+    let law = outcome-positive _ _ (entry .args .functional) _ kept right spoken (sym (at-negative .negative .ensures) ∙ (at-if4 .if4 .left)) in
     let put = (at-put-positive .put-positive .ensures) in
     ends law ((c .leaves5 .ensures) .0 ∙ (c .before .statuses-after .ensures), ((c .leaves5 .ensures) .1 ∙ ap Sent (put .ends ∙ zero-add _), put .holds))
 

@@ -4,9 +4,7 @@ use Prim.Native.Nat.{ℕ}
 use borrow.Author.Tests.{eq-eqb, ne-eqb}
 use borrow.Author.Needs.{needs}
 use lib.Dec.{eqb}
-use lib.Bits.{bitAnd}
 use Rattle.identifiers.proofs.LawsChoice.{taken, passed}
-use Rattle.server.specs.Faults.{clearedBelow}
 use Rattle.server.specs.Server.{statusesAfter}
 use Rattle.server.proofs.LawsRequests.{length-14}
 use Rattle.server.proofs.serving.statuses_after.Statement.{statement}
@@ -21,8 +19,7 @@ returns : tie.Need-returns
 unfolding statusesAfter
 returns c =
     let at-service = c .before .before .before in
-    let entry = at-service .before .before in
-    taken _ (eq-eqb _ 0x14 (sym (at-service .service .ensures) ∙ (c .before .before .if1 .taken))) ((c .cleared .ensures) ∙ ap (λ (g : ℕ). clearedBelow ((entry .args .codes) .now) (entry .args .statuses) g (bitAnd 0x50 (entry .args .availability)) (entry .args .count)) (c .before .group .ensures))
+    taken _ (eq-eqb _ 0x14 (sym (at-service .service .ensures) ∙ (c .before .before .if1 .taken))) (rw (c .before .group .ensures) at (c .cleared .ensures))
 
 returns-2 : tie.Need-returns-2
 unfolding statusesAfter

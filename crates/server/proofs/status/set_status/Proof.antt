@@ -4,7 +4,6 @@ use Prim.Native.Nat.{ℕ}
 use native.Mathlib.Omega.{arith}
 use borrow.Author.Tests.{lt-ltb, le-ltb, not-true, not-false}
 use borrow.Author.Needs.{needs}
-use lib.Dec.{ltb}
 use lib.ListN.{set}
 use Rattle.identifiers.proofs.LawsChoice.{taken}
 use Rattle.server.specs.Places.{heldAmong}
@@ -19,8 +18,8 @@ returns : tie.Need-returns
 unfolding soundRecord
 returns c =
     let entry = c .before .before .before .before .before .before .before in
-    let law = setting-1 (entry .args .t1) (entry .args .code) (entry .args .status) (sym (c .before .sound .ensures) ∙ not-true _ (c .if1 .taken)) in
-    set-ends law (refl, refl)
+    let broken = sym (c .before .sound .ensures) ∙ not-true _ (c .if1 .taken) in
+    set-ends (setting-1 (entry .args .t1) (entry .args .code) (entry .args .status) broken) (refl, refl)
 
 place-requires : tie.Need-place-requires
 unfolding soundRecord
@@ -35,8 +34,9 @@ returns-2 c =
     let at-if1 = c .before .before .before .before in
     let at-sound = at-if1 .before in
     let entry = at-sound .before .before .before .before .before .before in
-    let law = setting-18 (entry .args .t1) (entry .args .code) (entry .args .status) (sym (at-sound .sound .ensures) ∙ not-false _ (at-if1 .if1 .left)) (ap (λ (i : ℕ). ltb i ((entry .args .t1) .count)) (sym (c .before .place .ensures)) ∙ le-ltb _ _ (c .if2 .taken)) in
-    set-ends law (refl, refl)
+    let kept = sym (at-sound .sound .ensures) ∙ not-false _ (at-if1 .if1 .left) in
+    let not-held = rw (c .before .place .ensures) at (le-ltb _ _ (c .if2 .taken)) in
+    set-ends (setting-18 (entry .args .t1) (entry .args .code) (entry .args .status) kept not-held) (refl, refl)
 
 returns-3 : tie.Need-returns-3
 unfolding soundRecord heldAmong
@@ -45,8 +45,10 @@ returns-3 c =
     let at-if1 = at-place .before .before .before in
     let at-sound = at-if1 .before in
     let entry = at-sound .before .before .before .before .before .before in
-    let law = setting-19 (entry .args .t1) (entry .args .code) (entry .args .status) (sym (at-sound .sound .ensures) ∙ not-false _ (at-if1 .if1 .left)) (ap (λ (i : ℕ). ltb i ((entry .args .t1) .count)) (sym (at-place .place .ensures)) ∙ lt-ltb _ _ (c .before .before .if2 .left)) (sym (c .before .status-within .ensures) ∙ not-true _ (c .if3 .taken)) in
-    set-ends law (refl, refl)
+    let kept = sym (at-sound .sound .ensures) ∙ not-false _ (at-if1 .if1 .left) in
+    let held = rw (at-place .place .ensures) at (lt-ltb _ _ (c .before .before .if2 .left)) in
+    let outside = sym (c .before .status-within .ensures) ∙ not-true _ (c .if3 .taken) in
+    set-ends (setting-19 (entry .args .t1) (entry .args .code) (entry .args .status) kept held outside) (refl, refl)
 
 element-write-after : tie.Need-element-write-after
 unfolding soundRecord
@@ -63,8 +65,12 @@ returns-4 c =
     let at-if1 = at-place .before .before .before in
     let at-sound = at-if1 .before in
     let entry = at-sound .before .before .before .before .before .before in
-    let law = setting-set (entry .args .t1) (entry .args .code) (entry .args .status) (sym (at-sound .sound .ensures) ∙ not-false _ (at-if1 .if1 .left)) (ap (λ (i : ℕ). ltb i ((entry .args .t1) .count)) (sym (at-place .place .ensures)) ∙ lt-ltb _ _ (c .before .before .if2 .left)) (sym (c .before .status-within .ensures) ∙ not-false _ (c .if3 .left)) in
-    set-ends law (ap (λ (i : ℕ). withStatuses (entry .args .t1) (set ((entry .args .t1) .statuses) i (entry .args .status))) (at-place .place .ensures), refl)
+    let t = entry .args .t1 in
+    let kept = sym (at-sound .sound .ensures) ∙ not-false _ (at-if1 .if1 .left) in
+    let held = rw (at-place .place .ensures) at (lt-ltb _ _ (c .before .before .if2 .left)) in
+    let within = sym (c .before .status-within .ensures) ∙ not-false _ (c .if3 .left) in
+    let at-its-place = ap (λ (i : ℕ). withStatuses t (set (t .statuses) i (entry .args .status))) (at-place .place .ensures) in
+    set-ends (setting-set t (entry .args .code) (entry .args .status) kept held within) (at-its-place, refl)
 
 pub set-status-spec : {M : Type 1} → statement M
 set-status-spec = tie.close (tie.spec

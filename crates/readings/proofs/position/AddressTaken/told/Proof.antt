@@ -14,4 +14,12 @@ unfolding addressTold
 returns-2 c = rw (c .number .ensures) (ap addressTold (sym (c .before .before .self2 .given .1)))
 
 pub told-spec : {M : Type 1} → statement M
-told-spec = tie.close (tie.spec (λ c. search needs) (λ c κs. tt) (λ c. search needs) (λ c κs. search needs) returns returns-2)
+told-spec =
+    tie.close
+    (tie.spec
+    (λ c. search needs)
+    (λ c κs. tt)
+    (λ c. search needs)
+    (λ c κs. search needs)
+    returns
+    returns-2)

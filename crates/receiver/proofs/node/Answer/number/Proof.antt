@@ -9,4 +9,11 @@ returns-2 : tie.Need-returns-2
 returns-2 c = (c .number .ensures) ∙ ap answerNumber (sym (c .before .before .self .given .1))
 
 pub number-spec : {M : Type 1} → statement M
-number-spec = tie.close (tie.spec (λ c. search needs) (λ c. search needs) (λ c κs. tt) (λ c. search needs) returns-2)
+number-spec =
+    tie.close
+    (tie.spec
+    (λ c. search needs)
+    (λ c. search needs)
+    (λ c κs. tt)
+    (λ c. search needs)
+    returns-2)
