@@ -11,16 +11,4 @@ abbrev μ-loop : tie.MeasureT-loop
 μ-loop i₀ i = 9 - i
 
 pub numbers-and-vehicles-spec : {M : Type 1} → statement M
-numbers-and-vehicles-spec =
-    tie.close
-    (tie.spec
-    Inv-loop
-    μ-loop
-    (λ c. search needs)
-    (λ c. search needs)
-    (λ c. search needs)
-    (λ c κs. search needs)
-    (λ c. search needs)
-    (λ c. search needs)
-    (λ c. search needs)
-    (λ c. search needs))
+numbers-and-vehicles-spec = tie.close (tie.spec Inv-loop μ-loop (λ c. search needs) (λ c. search needs) (λ c. search needs) (λ c κs. search needs) (λ c. search needs) (λ c. search needs) (λ c. search needs) (λ c. search needs))

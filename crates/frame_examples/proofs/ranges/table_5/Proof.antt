@@ -11,14 +11,4 @@ abbrev μ-loop : tie.MeasureT-loop
 μ-loop raw₀ raw = 5 - raw
 
 pub table-5-spec : {M : Type 1} → statement M
-table-5-spec =
-    tie.close
-    (tie.spec
-    Inv-loop
-    μ-loop
-    (λ c. search needs)
-    (λ c κs. search needs)
-    (λ c. search needs)
-    (λ c. search needs)
-    (λ c. search needs)
-    (λ c. search needs))
+table-5-spec = tie.close (tie.spec Inv-loop μ-loop (λ c. search needs) (λ c κs. search needs) (λ c. search needs) (λ c. search needs) (λ c. search needs) (λ c. search needs))
