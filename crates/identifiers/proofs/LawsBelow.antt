@@ -4,13 +4,13 @@ use mathlib.Core.Bool.{Bool, true, false, _&&_}
 use mathlib.Core.List.{List, [], _++_, append-nil}
 use mathlib.Core.Logic.{⊎-elim}
 use Prim.Native.Nat.{ℕ, zero, suc, _+_, _<_, _≤_}
-use native.Mathlib.Nat.{eq-or-lt-of-le}
+use native.Mathlib.Nat.{add-zero, add-suc, eq-or-lt-of-le}
 use native.Mathlib.Numerals.{add-one}
 use native.Mathlib.Omega.{arith}
 use lib.ListN.{length, length-append}
 use Rattle.identifiers.specs.Choice.{pick, both}
 use Rattle.identifiers.specs.Below.{allBelow, countBelow, listBelow}
-use Rattle.identifiers.proofs.LawsChoice.{both-false, both-true, and-is}
+use Rattle.identifiers.proofs.LawsChoice.{both-false, true-after, both-assoc, both-true, and-is}
 
 -- ---- allBelow
 pub all-none : (p : ℕ → Bool) → allBelow p 0 ≡ true
@@ -48,6 +48,12 @@ pub all-each : (p : ℕ → Bool) (n : ℕ) → ((i : ℕ) → i < n → p i ≡
 unfolding allBelow both
 all-each p zero h = refl
 all-each p (suc n) h = rw (all-each p n (λ i l. h i (omega arith)), h n (omega arith))
+
+-- a row of tests is two rows, one behind the other
+pub all-split : (p : ℕ → Bool) (m n : ℕ) → allBelow p (m + n) ≡ both (allBelow p m) (allBelow (λ i. p (m + i)) n)
+unfolding allBelow
+all-split p m zero = rw add-zero (sym (true-after (allBelow p m)))
+all-split p m (suc n) = rw (add-suc, all-split p m n) (both-assoc (allBelow p m) (allBelow (λ i. p (m + i)) n) (p (m + n)))
 
 -- ---- countBelow
 pub count-none : (p : ℕ → Bool) → countBelow p 0 ≡ 0

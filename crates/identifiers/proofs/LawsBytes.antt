@@ -1,11 +1,12 @@
 -- Laws of bytes put into a buffer: the first run, then the next one; a loop that copies; a loop that puts f 0, f 1, ..
-use mathlib.Core.Path.{_≡_, refl, sym, ap, _∙_}
+use mathlib.Core.Path.{_≡_, refl, sym, ap, ap₂, _∙_}
 use mathlib.Core.List.{List, [], _∷_, _++_, append-nil, append-assoc}
 use Prim.Native.Nat.{ℕ, _+_, _≤_, _<_}
+use native.Mathlib.Nat.{zero-add}
 use native.Mathlib.Numerals.{add-one}
 use native.Mathlib.Omega.{arith}
-use lib.ListN.{length, getD, take, drop, set, length-set, length-append}
-use lib.Seq.{take-suc, take-suc-set, drop-set-lt}
+use lib.ListN.{length, getD, take, drop, set, length-set, length-append, take-append-drop}
+use lib.Seq.{take-suc, take-suc-set, take-set-le, drop-set-lt, drop-at}
 use Rattle.identifiers.specs.Below.{listBelow}
 use Rattle.identifiers.specs.Bytes.{written, Puts}
 use Rattle.identifiers.proofs.LawsBelow.{list-more, list-same}
@@ -38,13 +39,29 @@ take-written buffer at (b ∷ bytes) h =
     ∙ ap (λ (l : List ℕ). l ++ bytes) (take-suc-set buffer at b (omega arith))
     ∙ append-assoc (take at buffer) (b ∷ []) bytes
 
--- from the end of the bytes on: as it was
-pub drop-written : (buffer : List ℕ) (at : ℕ) (bytes : List ℕ) → drop (at + length bytes) (written buffer at bytes) ≡ drop (at + length bytes) buffer
+-- what stands before the bytes, and what stands behind them: as it was
+pub front-stays : (buffer : List ℕ) (at : ℕ) (bytes : List ℕ) (n : ℕ) → n ≤ at → take n (written buffer at bytes) ≡ take n buffer
 unfolding written
-drop-written buffer at [] = refl
-drop-written buffer at (b ∷ bytes) =
-    let e : at + length (b ∷ bytes) ≡ at + 1 + length bytes = omega arith in
-    rw e (drop-written (set buffer at b) (at + 1) bytes ∙ drop-set-lt (at + 1 + length bytes) buffer at b (omega arith))
+front-stays buffer at [] n h = refl
+front-stays buffer at (b ∷ bytes) n h = front-stays (set buffer at b) (at + 1) bytes n (omega arith) ∙ take-set-le n buffer at b h
+
+pub back-stays : (buffer : List ℕ) (at : ℕ) (bytes : List ℕ) (n : ℕ) → at + length bytes ≤ n → drop n (written buffer at bytes) ≡ drop n buffer
+unfolding written
+back-stays buffer at [] n h = refl
+back-stays buffer at (b ∷ bytes) n h = back-stays (set buffer at b) (at + 1) bytes n (omega arith) ∙ drop-set-lt n buffer at b (omega arith)
+
+pub drop-written : (buffer : List ℕ) (at : ℕ) (bytes : List ℕ) → drop (at + length bytes) (written buffer at bytes) ≡ drop (at + length bytes) buffer
+drop-written buffer at bytes = back-stays buffer at bytes (at + length bytes) (omega arith)
+
+-- bytes from the start on: the first of them stand in front of what they do not reach, and the others go on behind
+pub written-front : (old head rest bytes : List ℕ) → length old ≡ length head → written (old ++ rest) 0 (head ++ bytes) ≡ written (head ++ rest) (length head) bytes
+written-front old head rest bytes e =
+    let whole : 0 + length head ≤ length (old ++ rest) = rw length-append (omega arith) in
+    let front : take (length head) (written (old ++ rest) 0 head) ≡ head = rw zero-add at (take-written (old ++ rest) 0 head whole) in
+    let behind : drop (length head) (written (old ++ rest) 0 head) ≡ rest = (rw zero-add at (drop-written (old ++ rest) 0 head)) ∙ drop-at old rest (length head) e in
+    written-append (old ++ rest) 0 head bytes
+    ∙ ap (λ (l : List ℕ). written l (0 + length head) bytes) (sym (take-append-drop (length head) (written (old ++ rest) 0 head)) ∙ ap₂ _++_ front behind)
+    ∙ ap (λ (k : ℕ). written (head ++ rest) k bytes) (omega arith)
 
 -- ---- Puts
 pub puts-none : (buffer : List ℕ) (at : ℕ) → Puts buffer at [] at buffer

@@ -62,6 +62,16 @@ unfolding both
 both-false true = refl
 both-false false = refl
 
+pub true-after : (a : Bool) → both a true ≡ a
+unfolding both
+true-after true = refl
+true-after false = refl
+
+pub both-assoc : (a b c : Bool) → both (both a b) c ≡ both a (both b c)
+unfolding both
+both-assoc true b c = refl
+both-assoc false b c = refl
+
 both-left : (a b : Bool) → both a b ≡ true → a ≡ true
 unfolding both
 both-left true b e = refl

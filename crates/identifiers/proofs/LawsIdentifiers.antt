@@ -82,6 +82,11 @@ pub fields-widths : (n : ℕ) → Widths (fieldsOf n)
 unfolding fieldsOf
 fields-widths n = record { priority = omega arith; «data_page» = omega arith; format = omega arith; specific = omega arith; source = omega arith }
 
+-- SA is the number's last eight bits
+pub source-is : (n : ℕ) → fieldsOf n .source ≡ n % 2 ^ 8
+unfolding fieldsOf
+source-is n = refl
+
 -- the fields and R of a number that the formula gives
 module _ (i : Identifier) (R : ℕ) (w : Widths i) (r : R < 2 ^ 1) where
   pub formula-range : formula R i < 2 ^ 29

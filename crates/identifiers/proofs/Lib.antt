@@ -2,5 +2,6 @@
 pub mod LawsChoice
 pub mod LawsBelow
 pub mod LawsBytes
+pub mod LawsParts
 pub mod LawsRefusals
 pub mod LawsIdentifiers

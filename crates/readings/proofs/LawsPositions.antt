@@ -52,6 +52,16 @@ pub global-is-none : vehicleOf global ≡ NoVehicle
 unfolding vehicleOf vehicleAmong positions addressOf addresses pick
 global-is-none = refl
 
+-- an address is a byte
+pub address-byte : (p : Position) → addressOf p < 256
+unfolding addressOf addresses
+address-byte Zero = lit< tt
+address-byte One = lit< tt
+address-byte Two = lit< tt
+address-byte Three = lit< tt
+address-byte Four = lit< tt
+address-byte Five = lit< tt
+
 -- ---- places
 pub place-back : (p : Position) → positionAt (placeOf p) ≡ At p
 unfolding positionAt
@@ -73,6 +83,21 @@ place-below Five = lit< tt
 pub position-past : (n : ℕ) → 6 ≤ n → positionAt n ≡ NoVehicle
 unfolding positionAt
 position-past n h = List·getD-eq-default (At Zero ∷ At One ∷ At Two ∷ At Three ∷ At Four ∷ At Five ∷ []) NoVehicle h
+
+-- a number that is no position's is over 5
+pub position-none : (n : ℕ) → positionAt n ≡ NoVehicle → 5 < n
+unfolding positionAt
+position-none zero e = let z : _≡_ {A = ℕ} 0 1 = cc in absurd (omega arith)
+position-none (suc zero) e = let z : _≡_ {A = ℕ} 0 1 = cc in absurd (omega arith)
+position-none (suc (suc zero)) e = let z : _≡_ {A = ℕ} 0 1 = cc in absurd (omega arith)
+position-none (suc (suc (suc zero))) e = let z : _≡_ {A = ℕ} 0 1 = cc in absurd (omega arith)
+position-none (suc (suc (suc (suc zero)))) e = let z : _≡_ {A = ℕ} 0 1 = cc in absurd (omega arith)
+position-none (suc (suc (suc (suc (suc zero))))) e = let z : _≡_ {A = ℕ} 0 1 = cc in absurd (omega arith)
+position-none (suc (suc (suc (suc (suc (suc n)))))) e = omega arith
+
+-- positions are told apart by their places
+pub places-differ : (p q : Position) → placeOf p ≡ placeOf q → p ≡ q
+places-differ p q e = let h : At p ≡ At q = sym (place-back p) ∙ ap positionAt e ∙ place-back q in cc
 
 same-place : (p q : Position) → At p ≡ At q → placeOf q ≡ placeOf p
 same-place p q e = let h : p ≡ q = cc in ap placeOf (sym h)
