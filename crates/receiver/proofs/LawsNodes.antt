@@ -1,43 +1,82 @@
--- The rules of a node by their two halves; taking an address, one law an outcome: 1, 15, the same position, a new one.
-use mathlib.Core.Path.{_≡_, refl, sym, ap, _∙_}
-use mathlib.Core.Bool.{Bool, true, false}
-use Prim.Native.Nat.{ℕ}
+-- A node with one reception stored; a fresh node; taking an address, one law an outcome: 1, 15, the same position, a new one.
+use mathlib.Core.Path.{_≡_, refl, ap, _∙_}
+use mathlib.Core.Bool.{true, false}
+use mathlib.Core.List.{List}
+use mathlib.Core.Logic.{_≢_}
+use Prim.Native.Nat.{ℕ, _≤_, _<_}
 use borrow.Author.Tests.{eq-eqb, ne-eqb}
-use lib.Dec.{leb}
-use Rattle.identifiers.specs.Choice.{both}
-use Rattle.identifiers.specs.Below.{allBelow}
+use lib.ListN.{length, length-set, length-replicate, getD-replicate}
+use lib.Seq.{set-getD, getD-set-same, getD-set-other}
 use Rattle.identifiers.specs.Refusals.{refusal}
 use Rattle.identifiers.specs.declared.refusal.Refusal.{Refusal}
-use Rattle.identifiers.proofs.LawsBelow.{all-none, all-more, all-last}
 use Rattle.identifiers.proofs.LawsChoice.{pick-true, pick-false}
 use Rattle.readings.specs.Positions.{placeOf, takenAfter}
 use Rattle.readings.specs.declared.position.Position.{Position}
 use Rattle.readings.specs.declared.position.AddressTaken.the-variants.{Own, Refused}
-use Rattle.readings.proofs.LawsPositions.{after-15}
+use Rattle.readings.proofs.LawsPositions.{trailer-back, after-15}
+use Rattle.receiver.specs.declared.reception.Reception.{Reception}
 use Rattle.receiver.specs.declared.node.Node.{Node}
-use Rattle.receiver.specs.Receptions.{soundReception}
-use Rattle.receiver.specs.Nodes.{receptionAt, soundNode, soundInFront, soundBehind, freshNode, done, unchanged, takenTo, takenBy}
+use Rattle.receiver.specs.declared.node.Answer.the-variants.{Done}
+use Rattle.receiver.specs.Receptions.{closed}
+use Rattle.receiver.specs.Nodes.{receptionAt, withReception, soundNode, freshNode, startOf, freshOf, madeAt, done, unchanged, takenTo, takenBy}
 
--- three tests in a row, of which two hold: the third decides
-pub third-decides : (p : ℕ → Bool) → p 0 ≡ true → p 1 ≡ true → p 2 ≡ allBelow p 3
-third-decides p a b = sym (all-last p 2 (all-more p 1 (all-more p 0 (all-none p) a) b))
+-- ---- one reception stored
+module _ (n : Node) (p : ℕ) where
+  -- the one that is there changes nothing
+  pub put-back : withReception n p (receptionAt n p) ≡ n
+  unfolding withReception receptionAt
+  put-back = ap (λ (l : List Reception). record { own = n .own; unit = n .unit; receptions = l }) (set-getD (n .receptions) p closed)
 
--- a row of tests is two rows: the first decides, and where it holds the second
-halved : (a b c d e f : Bool) → both a (both b (both (both (both c d) e) f)) ≡ both (both a (both b c)) (both (both d e) f)
-unfolding both
-halved true true true d e f = refl
-halved true true false d e f = refl
-halved true false c d e f = refl
-halved false b c d e f = refl
+  module _ (r : Reception) where
+    -- it is found at its place, every other stays, and so do the own position, the unit and how many there are
+    pub reception-same : p < length (n .receptions) → receptionAt (withReception n p r) p ≡ r
+    unfolding withReception receptionAt
+    reception-same h = getD-set-same (n .receptions) p r closed h
 
-module _ (n : Node) where
-  abbrev test : ℕ → Bool
-  test p = soundReception (receptionAt n p)
+    pub reception-other : (q : ℕ) → q ≢ p → receptionAt (withReception n p r) q ≡ receptionAt n q
+    unfolding withReception receptionAt
+    reception-other q h = getD-set-other (n .receptions) p q r closed h
 
-  pub halves : soundNode n ≡ both (soundInFront n) (soundBehind n)
-  unfolding soundNode soundInFront soundBehind allBelow both
-  halves = halved (leb 1 (n .own)) (leb (n .own) 5) (allBelow test 3) (test 3) (test 4) (test 5)
+    pub own-stays : withReception n p r .own ≡ n .own
+    unfolding withReception
+    own-stays = refl
 
+    pub unit-stays : withReception n p r .unit ≡ n .unit
+    unfolding withReception
+    unit-stays = refl
+
+    pub count-stays : length (withReception n p r .receptions) ≡ length (n .receptions)
+    unfolding withReception
+    count-stays = length-set (n .receptions) p r
+
+-- ---- a fresh node: its own position and unit, and six receptions, all closed
+module _ (own unit : ℕ) where
+  pub fresh-own : freshNode own unit .own ≡ own
+  unfolding freshNode
+  fresh-own = refl
+
+  pub fresh-unit : freshNode own unit .unit ≡ unit
+  unfolding freshNode
+  fresh-unit = refl
+
+  pub fresh-six : length (freshNode own unit .receptions) ≡ 6
+  unfolding freshNode
+  fresh-six = length-replicate 6 closed
+
+  pub fresh-closed : (p : ℕ) → p < 6 → receptionAt (freshNode own unit) p ≡ closed
+  unfolding receptionAt freshNode
+  fresh-closed p h = getD-replicate 6 p closed closed h
+
+-- the makers give one: at any position 1 to 5, and at position 1
+pub made-fresh : (own : Position) (unit : ℕ) → 1 ≤ placeOf own → freshOf (placeOf own) unit ≡ record { node = freshNode (placeOf own) unit; answer = Done }
+unfolding freshOf madeAt done
+made-fresh own unit h = ap (madeAt (freshNode (placeOf own) unit)) (trailer-back own h)
+
+pub start-fresh : (unit : ℕ) → startOf unit ≡ freshNode 1 unit
+unfolding startOf
+start-fresh unit = refl
+
+-- ---- taking an address
 -- 1 before 15: "lent state breaks its rules"
 pub address-1 : (n : Node) (source : ℕ) → soundNode n ≡ false → takenBy n source ≡ unchanged n (refusal 1)
 unfolding takenBy

@@ -1,16 +1,17 @@
 -- What the cutter's functions go by: where a frame of a message starts, what its data are, and between which positions.
-use mathlib.Core.Path.{_≡_, refl, sym, ap₂, _∙_}
+use mathlib.Core.Path.{_≡_, refl, sym, ap, ap₂, _∙_}
 use mathlib.Core.Bool.{Bool, true, false}
 use mathlib.Core.List.{List, [], _∷_}
 use Prim.Native.Nat.{ℕ, _+_, _*_, _-_, _/_, _≤_, _<_}
 use native.Mathlib.Omega.{arith}
-use borrow.Author.Tests.{eqb-false, ltb-false, lt-leb}
+use borrow.Author.Tests.{eqb-false, ltb-false, le-leb, lt-leb, le-ltb, ne-eqb}
 use lib.Dec.{leb, ltb, eqb}
-use lib.ListN.{length, take, drop, length-drop}
+use lib.ListN.{length, take, drop, replicate, length-drop}
 use lib.Seq.{take-all, take-length, length-take-le}
 use Rattle.identifiers.specs.Choice.{pick, either}
 use Rattle.identifiers.specs.Bytes.{written}
-use Rattle.identifiers.proofs.LawsChoice.{pick-false, either-false}
+use Rattle.identifiers.proofs.LawsChoice.{pick-true, pick-false, right-decides, either-false}
+use Rattle.identifiers.proofs.LawsBytes.{written-none, written-front}
 use Rattle.readings.specs.declared.position.Position.{Position}
 use Rattle.readings.specs.declared.position.Vehicle.{Vehicle}
 use Rattle.readings.specs.declared.position.Vehicle.the-variants.{At, NoVehicle}
@@ -18,6 +19,21 @@ use Rattle.receiver.specs.declared.cutter.FrameCut.{FrameCut}
 use Rattle.receiver.specs.Cuts.{framesOf, noFrame, framed, headed, between}
 
 -- ---- how many frames
+pub frames-none : (L : ℕ) → either (eqb L 0) (ltb 255 L) ≡ true → framesOf L ≡ 0
+unfolding framesOf
+frames-none L h = pick-true _ _ h
+
+in-range : (L : ℕ) → 1 ≤ L → L ≤ 255 → either (eqb L 0) (ltb 255 L) ≡ false
+in-range L a b = sym (right-decides (ne-eqb L 0 (λ (e : L ≡ 0). omega arith)) (sym (le-ltb _ _ b)))
+
+pub frames-one : (L : ℕ) → 1 ≤ L → L ≤ 6 → framesOf L ≡ 1
+unfolding framesOf
+frames-one L a b = pick-false _ _ (in-range L a (omega arith)) ∙ pick-true _ _ (le-leb _ _ b)
+
+pub frames-many : (L : ℕ) → 7 ≤ L → L ≤ 255 → framesOf L ≡ 1 + (L - 5 + 5) / 6
+unfolding framesOf
+frames-many L a b = pick-false _ _ (in-range L (omega arith) b) ∙ pick-false _ _ (lt-leb _ _ a)
+
 -- a message that has a frame has 1 to 255 bytes
 frames-some : (L k : ℕ) → k < framesOf L → (1 ≤ L) × (L ≤ 255) × (k < pick (leb L 6) 1 (1 + (L - 5 + 5) / 6))
 unfolding framesOf pick
@@ -48,21 +64,30 @@ whole-part m = take-length m
 pub rest-part : (m : List ℕ) (start : ℕ) → length m - start ≤ 6 → take (length m - start) (drop start m) ≡ take 6 (drop start m)
 rest-part m start h = take-all (length m - start) (drop start m) (rw length-drop (omega arith)) ∙ sym (take-all 6 (drop start m) (rw length-drop (omega arith)))
 
-pub headed-two : (sender receiver : Position) (unit control : ℕ) (m : List ℕ) (start count : ℕ) {after : List ℕ} → start + count ≤ length m
-    → after ≡ written (unit ∷ control ∷ 0 ∷ 0 ∷ 0 ∷ 0 ∷ 0 ∷ 0 ∷ []) 2 (take count (drop start m))
-    → framed sender receiver (2 + count) after ≡ headed sender receiver (unit ∷ control ∷ []) (take count (drop start m))
-unfolding headed written
-headed-two sender receiver unit control m start count h e =
-    let l : 2 + count ≡ length (unit ∷ control ∷ take count (drop start m)) = omega (arith, length-take-le count (drop start m) (rw length-drop (omega arith))) in
-    ap₂ (framed sender receiver) l e
+-- the head stands in front, and the message bytes behind it
+module _ (sender receiver : Position) (unit control : ℕ) where
+  pub headed-two : (m : List ℕ) (start count : ℕ) {after : List ℕ} → start + count ≤ length m
+      → after ≡ written (unit ∷ control ∷ 0 ∷ 0 ∷ 0 ∷ 0 ∷ 0 ∷ 0 ∷ []) 2 (take count (drop start m))
+      → framed sender receiver (2 + count) after ≡ headed sender receiver (unit ∷ control ∷ []) (take count (drop start m))
+  unfolding headed
+  headed-two m start count h e =
+      let c : List ℕ = take count (drop start m) in
+      let l : 2 + count ≡ length (unit ∷ control ∷ c) = omega (arith, length-take-le count (drop start m) (rw length-drop (omega arith))) in
+      ap₂ (framed sender receiver) l (e ∙ sym (written-front (0 ∷ 0 ∷ []) (unit ∷ control ∷ []) (replicate 6 0) c refl))
 
-pub headed-three : (sender receiver : Position) (unit control third : ℕ) (m : List ℕ) {after : List ℕ} → 7 ≤ length m
-    → after ≡ written (unit ∷ control ∷ third ∷ 0 ∷ 0 ∷ 0 ∷ 0 ∷ 0 ∷ []) 3 (take 5 (drop 0 m))
-    → framed sender receiver 8 after ≡ headed sender receiver (unit ∷ control ∷ third ∷ []) (take 5 m)
-unfolding headed written
-headed-three sender receiver unit control third m h e =
-    let l : 8 ≡ length (unit ∷ control ∷ third ∷ take 5 m) = omega (arith, length-take-le 5 m (omega arith)) in
-    ap₂ (framed sender receiver) l e
+  pub headed-three : (third : ℕ) (m : List ℕ) {after : List ℕ} → 7 ≤ length m
+      → after ≡ written (unit ∷ control ∷ third ∷ 0 ∷ 0 ∷ 0 ∷ 0 ∷ 0 ∷ []) 3 (take 5 (drop 0 m))
+      → framed sender receiver 8 after ≡ headed sender receiver (unit ∷ control ∷ third ∷ []) (take 5 m)
+  unfolding headed
+  headed-three third m h e =
+      let l : 8 ≡ length (unit ∷ control ∷ third ∷ take 5 m) = omega (arith, length-take-le 5 m (omega arith)) in
+      ap₂ (framed sender receiver) l (e ∙ sym (written-front (0 ∷ 0 ∷ 0 ∷ []) (unit ∷ control ∷ third ∷ []) (replicate 5 0) (take 5 m) refl))
+
+  -- a flow control: the unit, the control and two zeros
+  pub headed-control : framed sender receiver 4 (unit ∷ control ∷ 0 ∷ 0 ∷ 0 ∷ 0 ∷ 0 ∷ 0 ∷ []) ≡ headed sender receiver (unit ∷ []) (control ∷ 0 ∷ 0 ∷ [])
+  unfolding headed
+  headed-control =
+      ap (framed sender receiver 4) (sym (written-front (0 ∷ 0 ∷ 0 ∷ 0 ∷ []) (unit ∷ control ∷ 0 ∷ 0 ∷ []) (replicate 4 0) [] refl ∙ written-none (unit ∷ control ∷ 0 ∷ 0 ∷ replicate 4 0) 4))
 
 -- ---- between which positions
 pub none-else : (t : Bool) (x : FrameCut) → x ≡ noFrame → pick t noFrame x ≡ noFrame

@@ -32,7 +32,8 @@ use Rattle.receiver.specs.Steps.{regionAt, kept, shut, opened, leftOf, t
 use Rattle.receiver.specs.Shown.{shownOf}
 use Rattle.receiver.specs.Changes.{closes, Does, Changes, toldLength}
 use Rattle.receiver.proofs.LawsFrames.{Fair, fair}
-use Rattle.receiver.proofs.LawsSteps.{length-after, ready}
+use Rattle.receiver.proofs.LawsSteps.{length-after}
+use Rattle.receiver.proofs.LawsReceived.{ready}
 
 -- ---- what each outcome changes
 abbrev By : Reception → ℕ → Step → Type 0

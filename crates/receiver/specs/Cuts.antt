@@ -1,6 +1,7 @@
 -- The cutter (document 01, "Frames and trains"): "message and frame number give one frame, priority 6, no padding".
+use mathlib.Core.Path.{_≡_}
 use mathlib.Core.List.{List, [], _∷_, _++_}
-use Prim.Native.Nat.{ℕ, _+_, _-_, _*_, _/_, _%_}
+use Prim.Native.Nat.{ℕ, _+_, _-_, _*_, _/_, _%_, _≤_, _<_}
 use lib.Dec.{leb, ltb, eqb}
 use lib.ListN.{length, take, drop, replicate}
 use Rattle.identifiers.specs.Choice.{pick, either}
@@ -20,6 +21,7 @@ use Rattle.receiver.specs.declared.cutter.FrameCutTold.{FrameCutTold}
 use Rattle.receiver.specs.declared.step.Control.{Control}
 use Rattle.receiver.specs.declared.step.Control.the-variants.{Continue, Overflow}
 use Rattle.receiver.specs.Nodes.{answerNumber}
+use Rattle.receiver.specs.Frames.{Frame}
 
 -- "one single frame up to 6 bytes, else a first frame and consecutive frames 1 to ceiling((L-5)/6)"; none for 0 or over 255
 unfoldable pub framesOf : ℕ → ℕ
@@ -62,6 +64,19 @@ unfoldable pub cutOf : List ℕ → ℕ → ℕ → ℕ → ℕ → FrameCut
 cutOf message k from to unit =
     pick (either (eqb from to) (leb (framesOf (length message)) k)) noFrame
     (between (positionAt from) (positionAt to) (λ sender receiver. pieceOf sender receiver unit message k))
+
+-- 16 "message of 0 or over 255, frame past the last, positions over 5 or equal"
+pub data Uncut (message : List ℕ) (k from to : ℕ) : Type 0 where
+  empty : length message ≡ 0 → Uncut message k from to
+  too-long : 255 < length message → Uncut message k from to
+  past-last : framesOf (length message) ≤ k → Uncut message k from to
+  no-sender : 5 < from → Uncut message k from to
+  no-receiver : 5 < to → Uncut message k from to
+  same-position : from ≡ to → Uncut message k from to
+
+-- a cut frame on the wire, sent at a stamp: no padding
+abbrev pub onWire : FrameCut → ℕ → Frame
+onWire c stamp = record { identifier = c .identifier; bytes = take (c .length) (c .«data»); stamp = stamp }
 
 -- "overflow control (32 00 00 after the unit)", "continue control (30 00 00)"
 unfoldable pub controlByte : Control → ℕ

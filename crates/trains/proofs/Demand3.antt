@@ -6,24 +6,26 @@ use mathlib.Core.List.{List, [], _∷_, _++_, append-assoc}
 use mathlib.Core.Logic.{_≢_, _↔_}
 use Prim.Native.Nat.{ℕ, suc, _+_, _-_, _*_, _%_, _^_, _≤_, _<_}
 use native.Mathlib.Omega.{arith}
+use lib.Dec.{lit<}
 use lib.ListN.{length, take, drop, replicate, length-replicate}
 use Rattle.identifiers.specs.Refusals.{refusal}
 use Rattle.readings.specs.Positions.{placeOf, addressOf}
 use Rattle.readings.specs.declared.position.Position.{Position}
 use Rattle.readings.specs.declared.position.Position.the-variants.{One}
-use Rattle.readings.proofs.LawsPositions.{trailer-back}
 use Rattle.receiver.specs.declared.node.Node.{Node}
 use Rattle.receiver.specs.declared.node.Answer.the-variants.{Done, Refused}
 use Rattle.receiver.specs.declared.cutter.FrameCut.{FrameCut}
 use Rattle.receiver.specs.declared.frame.Judged.the-variants.{Single, First, OverLong, Consecutive}
-use Rattle.receiver.specs.Nodes.{freshNode, startOf, freshOf, madeAt, done}
+use Rattle.receiver.specs.Nodes.{freshNode, startOf, freshOf}
 use Rattle.receiver.specs.Frames.{Frame}
-use Rattle.receiver.specs.Steps.{gapOf}
-use Rattle.receiver.specs.Cuts.{framesOf, noFrame, cutOf}
+use Rattle.receiver.specs.Cuts.{framesOf, noFrame, cutOf, Uncut}
 use Rattle.trains.specs.Sequences.{Line, start, _▹_, size, Request, seen, Elsewhere, Underway, Complete, Stands, Reading, none-yet, no-more, one-more}
 use Rattle.trains.specs.Runs.{Held, handedAt, requests}
 use Rattle.receiver.specs.Wire.{Addressed, IsSingle, IsFirst, IsOverLong, IsConsecutive}
-use Rattle.trains.specs.Terms.{Within, same, later, only, fromAddress, origin, Aside, Fate, Follows, Whole, Uncut, cutFrame, SentWhole, sends, InTime}
+use Rattle.trains.specs.Terms.{Within, same, later, only, fromAddress, origin, Aside, Fate, Follows, Whole, cutFrame, SentWhole, sends, InTime}
+use Rattle.receiver.proofs.LawsNodes.{made-fresh, start-fresh}
+use Rattle.receiver.proofs.LawsFollowed.{gap-same}
+use Rattle.receiver.proofs.LawsCutter.{none-16, cut-16, only-16}
 use Rattle.receiver.proofs.LawsFrames.{single-is, first-is, over-long-is, consecutive-is}
 use Rattle.trains.proofs.LawsSequences.{same-train, one-request, readings-agree, once}
 use Rattle.trains.proofs.LawsFates.{fate, follows, elsewhere-is}
@@ -31,7 +33,6 @@ use Rattle.trains.proofs.LawsViews.{Verdict, nothing, one}
 use Rattle.trains.proofs.LawsTracks.{freshHeld, verdict}
 use Rattle.trains.proofs.LawsCarried.{whole, request-bounds}
 use Rattle.trains.proofs.LawsOwn.{elsewhere-by-source, others-by-address, alone}
-use Rattle.trains.proofs.LawsCuts.{cut-16, only-16}
 use Rattle.trains.proofs.LawsReadBack.{Carries, cut-single, cut-first, cut-consecutive}
 use Rattle.trains.proofs.LawsSent.{sent-stands, sent-whole, read-after}
 
@@ -162,8 +163,7 @@ CutterRefuses = (m : List ℕ) (k from to unit : ℕ) → (cutOf m k from to uni
 
 -- ---- the proofs
 pub makers-are-fresh : MakersAreFresh
-unfolding freshOf startOf madeAt done
-makers-are-fresh own unit h = (ap (madeAt (freshNode (placeOf own) unit)) (trailer-back own h), refl)
+makers-are-fresh own unit h = (made-fresh own unit h, start-fresh unit)
 
 module _ (own : Position) (unit : ℕ) (x : Held) (fresh : Fresh own unit x) where
   verdict-at : (h : Line) (f : Frame) → Verdict own unit h f (handedAt x h f)
@@ -274,12 +274,10 @@ module _ (own : Position) (unit : ℕ) where
   read-back p m other some most stamps timely h r x = read-after own unit p m other some most stamps h timely r x
 
   pub sendable : Sendable own unit
-  unfolding gapOf
-  sendable p m other some most h = sent-whole own unit p m other some most (λ k. 0) h (λ k l. omega arith)
+  sendable p m other some most h = sent-whole own unit p m other some most (λ k. 0) h (λ k l. omega (arith, gap-same 0 (lit< tt)))
 
   pub cut-taken-apart : CutTakenApart own unit
   cut-taken-apart p m other t = (cut-single own unit p m other t, λ long most. cut-first own unit p m other long most t, λ long most k l. cut-consecutive own unit p m other long most k t l)
 
 pub cutter-refuses : CutterRefuses
-unfolding noFrame
-cutter-refuses m k from to unit = ((only-16 m k from to unit, λ u. ap (λ (c : FrameCut). c .answer) (cut-16 m k from to unit u)), cut-16 m k from to unit)
+cutter-refuses m k from to unit = ((only-16 m k from to unit, λ u. ap (λ (c : FrameCut). c .answer) (cut-16 m k from to unit u) ∙ none-16), cut-16 m k from to unit)

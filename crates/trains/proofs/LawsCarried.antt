@@ -15,7 +15,7 @@ use Rattle.receiver.specs.Frames.{Frame}
 use Rattle.trains.specs.Sequences.{Line, due, seen, Next, Underway, begins, passes, goes-on, Complete, Stands, single, train}
 use Rattle.trains.specs.Terms.{carried, firstFrame, followers, Whole}
 use Rattle.receiver.proofs.LawsFrames.{fair}
-use Rattle.trains.proofs.LawsCuts.{frames-many}
+use Rattle.receiver.proofs.LawsPieces.{frames-many}
 use Rattle.trains.proofs.LawsSequences.{grown, bounded}
 
 module _ {own : Position} {unit : ℕ} {p : Position} where

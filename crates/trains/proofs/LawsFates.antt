@@ -7,11 +7,11 @@ use Prim.Native.Nat.{ℕ, suc, _+_, _%_, _≤_, _<_}
 use native.Mathlib.Decide.{decLt, ℕ-discrete}
 use native.Mathlib.Omega.{arith}
 use lib.ListN.{length, take, drop}
-use Rattle.readings.specs.Positions.{placeOf, positionAt}
+use Rattle.readings.specs.Positions.{placeOf}
 use Rattle.readings.specs.declared.position.Position.{Position}
 use Rattle.readings.specs.declared.position.Vehicle.{Vehicle}
 use Rattle.readings.specs.declared.position.Vehicle.the-variants.{At, NoVehicle}
-use Rattle.readings.proofs.LawsPositions.{place-back}
+use Rattle.readings.proofs.LawsPositions.{places-differ}
 use Rattle.receiver.specs.declared.frame.Judged.{Judged}
 use Rattle.receiver.specs.declared.frame.Judged.the-variants.{Refused, Single, First, OverLong, Consecutive}
 use Rattle.receiver.specs.Frames.{Frame}
@@ -20,10 +20,6 @@ use Rattle.trains.specs.Sequences.{Line, _▹_, physicalOf, due, seen, E
 use Rattle.receiver.proofs.LawsFrames.{fair}
 use Rattle.trains.proofs.LawsSequences.{one-underway, passed-next, grown, completed}
 use Rattle.trains.specs.Terms.{origin, Rests, Aside, by-refusal, by-function, by-vehicle, Ends, by-single, by-first, by-over-long, by-number, by-lateness, Fate, passed-over, taken, completes, ended, Follows}
-
--- ---- positions are told apart by their places
-pub places-differ : (p q : Position) → placeOf p ≡ placeOf q → p ≡ q
-places-differ p q e = let h : At p ≡ At q = sym (place-back p) ∙ ap positionAt e ∙ place-back q in cc
 
 -- ---- a physical frame of p is one of four
 pub data Mine (p : Position) : Judged → Type 0 where

@@ -1,5 +1,5 @@
 -- A train is judged by its own vehicle's frames alone: frames that stand elsewhere may be left out of the sequence.
-use mathlib.Core.Path.{_≡_, refl, ap, subst}
+use mathlib.Core.Path.{_≡_, refl, sym, ap, _∙_, subst}
 use mathlib.Core.Bool.{Bool, true, false}
 use mathlib.Core.List.{List}
 use mathlib.Core.Logic.{_≢_}
@@ -7,6 +7,7 @@ use Prim.Native.Nat.{ℕ, _%_, _^_}
 use borrow.Author.Tests.{eqb-false}
 use Rattle.identifiers.specs.Choice.{pick}
 use Rattle.identifiers.specs.Identifiers.{fieldsOf}
+use Rattle.identifiers.proofs.LawsIdentifiers.{source-is}
 use Rattle.readings.specs.Positions.{addressOf}
 use Rattle.readings.specs.declared.position.Position.{Position}
 use Rattle.receiver.specs.declared.frame.Judged.{Judged}
@@ -25,8 +26,7 @@ module _ (own : Position) (unit : ℕ) (p : Position) where
   mine-source n bytes _ a-consecutive s = s .0 .source
 
   pub elsewhere-by-source : (f : Frame) → f .identifier % 2 ^ 8 ≢ addressOf p → Elsewhere own unit p f
-  unfolding fieldsOf
-  elsewhere-by-source f n e = n (mine-source (f .identifier) (f .bytes) (seen own unit f) (mine p (seen own unit f) e) (fair own unit (f .identifier) (f .bytes) _ refl))
+  elsewhere-by-source f n e = n (sym (source-is (f .identifier)) ∙ mine-source (f .identifier) (f .bytes) (seen own unit f) (mine p (seen own unit f) e) (fair own unit (f .identifier) (f .bytes) _ refl))
 
   pub others-by-address : (f : Frame) → fromAddress p f ≡ false → Elsewhere own unit p f
   others-by-address f e = elsewhere-by-source f (eqb-false _ _ e)

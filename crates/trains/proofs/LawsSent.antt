@@ -16,7 +16,7 @@ use Rattle.receiver.specs.Steps.{gapOf}
 use Rattle.receiver.specs.Cuts.{framesOf}
 use Rattle.trains.specs.Sequences.{Line, _▹_, size, due, Request, elsewhere, Next, Underway, begins, passes, goes-on, Complete, Stands, single, train, Reading, no-more, one-more}
 use Rattle.trains.specs.Terms.{taken, Follows, cutFrame, Sent, first-sent, between, next-sent, SentWhole, alone, last-sent, sends, InTime}
-use Rattle.trains.proofs.LawsCuts.{frames-one, frames-many}
+use Rattle.receiver.proofs.LawsPieces.{frames-one, frames-many}
 use Rattle.trains.proofs.LawsReadBack.{cut-single, cut-first, cut-consecutive}
 use Rattle.trains.proofs.LawsFates.{follows}
 use Rattle.trains.proofs.LawsViews.{none-stands, only-train}

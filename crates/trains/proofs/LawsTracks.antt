@@ -2,14 +2,9 @@
 use mathlib.Core.Path.{_≡_, refl, sym, ap, _∙_, subst}
 use mathlib.Core.Bool.{true, false}
 use mathlib.Core.List.{List}
-use Prim.Native.Nat.{ℕ, _+_, _*_, _≤_, _<_}
+use Prim.Native.Nat.{ℕ, _+_, _*_, _≤_}
 use native.Mathlib.Omega.{arith}
-use lib.ListN.{length, length-set, length-replicate, getD-replicate}
-use lib.Seq.{getD-set-same}
-use borrow.Author.Tests.{le-leb}
-use Rattle.identifiers.specs.Choice.{pick, both}
-use Rattle.identifiers.proofs.LawsChoice.{so}
-use Rattle.identifiers.proofs.LawsBelow.{all-each}
+use lib.ListN.{length}
 use Rattle.readings.specs.Positions.{placeOf, trailerAt}
 use Rattle.readings.specs.declared.position.Position.{Position}
 use Rattle.readings.specs.declared.position.Vehicle.the-variants.{At}
@@ -18,19 +13,21 @@ use Rattle.receiver.specs.declared.reception.Reception.{Reception}
 use Rattle.receiver.specs.declared.frame.Judged.{Judged}
 use Rattle.receiver.specs.declared.frame.Judged.the-variants.{Refused, Single, First, OverLong, Consecutive}
 use Rattle.receiver.specs.declared.step.Step.{Step}
-use Rattle.receiver.specs.Receptions.{closed, soundReception}
 use Rattle.receiver.specs.Nodes.{receptionAt, withReception, soundNode, freshNode}
-use Rattle.receiver.specs.Frames.{Frame, judgedOf}
-use Rattle.receiver.specs.Steps.{kept, stepOf, judgedPlace, stepBy, receivedBy, writtenBy, bufferAfter}
-use Rattle.receiver.specs.Shown.{shownOf}
-use Rattle.trains.specs.Sequences.{Line, start, _▹_, size, physicalOf, seen, Elsewhere, elsewhere, Underway, begins, passes, goes-on, single}
+use Rattle.receiver.specs.Frames.{Frame}
+use Rattle.receiver.specs.Steps.{stepOf, judgedPlace, writtenBy, bufferAfter}
+use Rattle.trains.specs.Sequences.{Line, start, _▹_, size, physicalOf, seen, Elsewhere, elsewhere, Underway, begins, passes, goes-on}
 use Rattle.trains.specs.Runs.{Held, answer, next, offered, handed, handedAt}
 use Rattle.receiver.proofs.LawsFrames.{fair}
-use Rattle.receiver.proofs.LawsSteps.{Fitted, step-fitted, about, about-place, place-judged, sound-at, sound-with, length-after, received-is, buffer-is}
+use Rattle.receiver.proofs.LawsNodes.{reception-same, own-stays, unit-stays, count-stays, fresh-own, fresh-unit, fresh-six, fresh-closed}
+use Rattle.receiver.proofs.LawsRules.{sound-at, sound-with, fresh-sound}
+use Rattle.receiver.proofs.LawsSteps.{Fitted, step-fitted, about, about-place, place-judged, length-after}
+use Rattle.receiver.proofs.LawsGiven.{refused-gives, functional-gives}
+use Rattle.receiver.proofs.LawsReceived.{received-is, buffer-is}
 use Rattle.trains.proofs.LawsOthers.{unmoved}
 use Rattle.trains.proofs.LawsSequences.{bounded}
 use Rattle.trains.proofs.LawsFates.{Mine, a-single, a-first, an-over-long, a-consecutive, mine, whose, rests-on}
-use Rattle.trains.proofs.LawsViews.{View, resting, receiving, Verdict, nothing, one, Advances, none-stands, advance-mine}
+use Rattle.trains.proofs.LawsViews.{View, resting, receiving, Verdict, nothing, Advances, hands-out-by, single-out, none-stands, advance-mine}
 
 mine-place : {q : Position} {j : Judged} → Mine q j → judgedPlace j ≡ placeOf q
 mine-place a-single = refl
@@ -76,14 +73,10 @@ module _ (own : Position) (unit : ℕ) where
     at-own = ap trailerAt (t .own-place) ∙ trailer-back own at-least
 
     answer-is : answer x f ≡ record { node = after .node; outcome = step .outcome }
-    unfolding receivedBy stepBy
-    answer-is = received-is (x .node) (x .buffer) own (t .sound) (t .room) at-own (f .identifier) (f .bytes) (f .stamp)
-        ∙ ap (λ (u : ℕ). receivedBy (x .node) (judgedOf own u (f .identifier) (f .bytes)) (f .bytes) (f .stamp)) (t .own-unit)
+    answer-is = received-is (x .node) (x .buffer) own unit (t .sound) (t .room) at-own (t .own-unit) (f .identifier) (f .bytes) (f .stamp)
 
     buffer-next : bufferAfter (x .node) (x .buffer) (f .identifier) (f .bytes) (f .stamp) ≡ after .buffer
-    unfolding stepBy
-    buffer-next = buffer-is (x .node) (x .buffer) own (t .sound) (t .room) at-own (f .identifier) (f .bytes) (f .stamp)
-        ∙ ap (λ (u : ℕ). writtenBy (x .buffer) (stepBy (x .node) (judgedOf own u (f .identifier) (f .bytes)) (f .bytes) (f .stamp)) (f .bytes)) (t .own-unit)
+    buffer-next = buffer-is (x .node) (x .buffer) own unit (t .sound) (t .room) at-own (t .own-unit) (f .identifier) (f .bytes) (f .stamp)
 
     fitted : Fitted (judgedPlace j) (length (f .bytes)) step
     fitted =
@@ -96,12 +89,11 @@ module _ (own : Position) (unit : ℕ) where
     advance q i e m = advance-mine own unit q h f (receptionAt (x .node) (placeOf q)) (x .buffer) (t .room) i e m (t .views q)
 
     view-mine : (q : Position) → Mine q j → ViewAfter q
-    unfolding withReception receptionAt
     view-mine q m =
         let s : ℕ → Step = λ i. stepOf (receptionAt (x .node) i) j (length (f .bytes)) (f .stamp) in
         let l = t .six in
         subst (λ (i : ℕ). View own unit q (h ▹ f) (receptionAt (withReception (x .node) i (s i .reception)) (placeOf q)) (writtenBy (x .buffer) (s i) (f .bytes))) (sym (mine-place m))
-        (rw (getD-set-same (x .node .receptions) (placeOf q) (s (placeOf q) .reception) closed (omega (arith, place-below q))) (advance q j refl m .view))
+        (rw (reception-same (x .node) (placeOf q) (s (placeOf q) .reception) (omega (arith, place-below q))) (advance q j refl m .view))
 
     -- ---- every other vehicle
     view-elsewhere : (q : Position) → Elsewhere own unit q f → View own unit q h (receptionAt (x .node) (placeOf q)) (x .buffer) → ViewAfter q
@@ -118,9 +110,9 @@ module _ (own : Position) (unit : ℕ) where
 
     -- ---- what is handed out
     hands-out : (i : Judged) → seen own unit f ≡ i → HandsOut (stepOn i)
-    unfolding stepOf pick kept handed shownOf
-    hands-out (Refused why) e = nothing refl (none-stands own unit (Refused why) tt e)
-    hands-out (Single p true L) e = one refl (single e refl)
+    unfolding handed
+    hands-out (Refused why) e = hands-out-by own unit (refused-gives (x .buffer) (f .bytes) _ _ _ why) (nothing refl (none-stands own unit (Refused why) tt e))
+    hands-out (Single p true L) e = hands-out-by own unit (functional-gives (x .buffer) (f .bytes) _ _ _ p L) (single-out own unit (x .buffer) e)
     hands-out (Single p false L) e = advance p _ e a-single .verdict
     hands-out (First p L) e = advance p _ e a-first .verdict
     hands-out (OverLong p) e = advance p _ e an-over-long .verdict
@@ -128,12 +120,11 @@ module _ (own : Position) (unit : ℕ) where
 
     -- one frame further
     pub tracks-on : Tracks (h ▹ f) (next x f)
-    unfolding withReception
     tracks-on =
         let a : Tracks (h ▹ f) after = record {
-          own-place = t .own-place;
-          own-unit = t .own-unit;
-          six = length-set (x .node .receptions) _ _ ∙ t .six;
+          own-place = own-stays (x .node) (judgedPlace j) (step .reception) ∙ t .own-place;
+          own-unit = unit-stays (x .node) (judgedPlace j) (step .reception) ∙ t .own-unit;
+          six = count-stays (x .node) (judgedPlace j) (step .reception) ∙ t .six;
           sound = sound-with (x .node) (judgedPlace j) (step .reception) (fitted .sound) (t .sound);
           room = length-after (x .buffer) step (f .bytes) ∙ t .room;
           views = λ q. view-after q (whose q (physicalOf j));
@@ -153,25 +144,14 @@ module _ (own : Position) (unit : ℕ) where
   freshHeld buffer = record { node = freshNode (placeOf own) unit; buffer = buffer }
 
   module _ (at-least : 1 ≤ placeOf own) (buffer : List ℕ) (room : length buffer ≡ 1536) where
-    all-closed : (i : ℕ) → i < 6 → receptionAt (freshNode (placeOf own) unit) i ≡ closed
-    unfolding receptionAt freshNode
-    all-closed i l = getD-replicate 6 i closed closed l
-
-    fresh-sound : soundNode (freshNode (placeOf own) unit) ≡ true
-    unfolding soundNode freshNode soundReception pick both
-    fresh-sound =
-        let l = place-below own in
-        sym (so (le-leb 1 (placeOf own) at-least) (sym (sym (so (le-leb (placeOf own) 5 (omega arith)) (sym (all-each (λ (i : ℕ). soundReception (receptionAt (freshNode (placeOf own) unit) i)) 6 (λ i h. ap soundReception (all-closed i h))))))))
-
     tracks-start : Tracks start (freshHeld buffer)
-    unfolding freshNode
     tracks-start = record {
-      own-place = refl;
-      own-unit = refl;
-      six = length-replicate 6 closed;
-      sound = fresh-sound;
+      own-place = fresh-own (placeOf own) unit;
+      own-unit = fresh-unit (placeOf own) unit;
+      six = fresh-six (placeOf own) unit;
+      sound = fresh-sound (placeOf own) unit at-least (omega (arith, place-below own));
       room = room;
-      views = λ p. resting (all-closed (placeOf p) (place-below p)) (λ L k t b w. rests-at-start w refl);
+      views = λ p. resting (fresh-closed (placeOf own) unit (placeOf p) (place-below p)) (λ L k t b w. rests-at-start w refl);
     }
 
     pub tracks : (h : Line) → Tracks h (offered (freshHeld buffer) h)

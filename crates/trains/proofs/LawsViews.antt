@@ -7,27 +7,26 @@ use Prim.Native.Nat.{ℕ, suc, _+_, _-_, _*_, _%_, _≤_, _<_, min}
 use native.Mathlib.Omega.{arith}
 use lib.ListN.{length, take, drop, length-drop}
 use lib.Seq.{length-take-le}
-use Rattle.identifiers.specs.Choice.{pick}
 use Rattle.identifiers.specs.Bytes.{written}
 use Rattle.identifiers.specs.Refusals.{refusal}
 use Rattle.identifiers.specs.declared.refusal.Refusal.{Refusal}
-use Rattle.readings.specs.Positions.{placeOf}
+use Rattle.identifiers.proofs.LawsParts.{grows}
 use Rattle.readings.specs.declared.position.Position.{Position}
-use Rattle.readings.proofs.LawsPositions.{place-below}
 use Rattle.receiver.specs.declared.reception.Reception.{Reception}
 use Rattle.receiver.specs.declared.frame.Judged.{Judged}
 use Rattle.receiver.specs.declared.frame.Judged.the-variants.{Refused, Single, First, OverLong, Consecutive}
 use Rattle.receiver.specs.declared.step.Step.{Step}
+use Rattle.receiver.specs.declared.step.Outcome.{Outcome}
 use Rattle.receiver.specs.declared.step.Outcome.the-variants as outcome
 use Rattle.receiver.specs.Receptions.{closed, openWith}
 use Rattle.receiver.specs.Frames.{Frame}
-use Rattle.receiver.specs.Steps.{regionAt, kept, shut, opened, followed, stepOf, writtenBy}
-use Rattle.receiver.specs.Shown.{shownOf}
+use Rattle.receiver.specs.Steps.{regionAt, shut, followed, stepOf, writtenBy}
 use Rattle.trains.specs.Sequences.{Line, _▹_, size, physicalOf, due, Request, seen, elsewhere, too-short, Next, Underway, begins, passes, goes-on, Complete, Stands, single, train}
 use Rattle.trains.specs.Runs.{handed}
 use Rattle.receiver.proofs.LawsFrames.{fair}
-use Rattle.receiver.proofs.LawsSteps.{nothing-open, followed-short, followed-wrong, followed-late, followed-on, followed-last, kept-writes}
-use Rattle.trains.proofs.LawsRegions.{grows}
+use Rattle.receiver.proofs.LawsFollowed.{nothing-open, followed-short, followed-wrong, followed-late, followed-on, followed-last}
+use Rattle.receiver.proofs.LawsSteps.{region-fits}
+use Rattle.receiver.proofs.LawsGiven.{Gives, kept-gives, shut-gives, stores-gives, physical-gives, over-long-gives, first-gives, consecutive-step, shown-single, shown-train}
 use Rattle.trains.specs.Terms.{Rests, Ends, by-single, by-first, by-over-long, by-number, by-lateness, Fate, passed-over, taken, completes, ended, Follows}
 use Rattle.trains.proofs.LawsSequences.{grown, bounded}
 use Rattle.trains.proofs.LawsFates.{Mine, a-single, a-first, an-over-long, a-consecutive, fate, rests-on, follows}
@@ -47,6 +46,22 @@ module _ (own : Position) (unit : ℕ) where
   pub record Advances (p : Position) (h : Line) (f : Frame) (buffer : List ℕ) (s : Step) : Type 0 where
     pub view : View p (h ▹ f) (s .reception) (writtenBy buffer s (f .bytes))
     pub verdict : Verdict h f (handed (size h) (s .outcome) (f .bytes) (writtenBy buffer s (f .bytes)))
+
+  -- what a step hands out, by what it gives; and what it leaves too
+  pub hands-out-by : {h : Line} {f : Frame} {buffer : List ℕ} {s : Step} {r : Reception} {o : Outcome} {after : List ℕ} → Gives buffer (f .bytes) s r o after
+      → Verdict h f (handed (size h) o (f .bytes) after) → Verdict h f (handed (size h) (s .outcome) (f .bytes) (writtenBy buffer s (f .bytes)))
+  hands-out-by g v = rw (g .leaves, g .outcome) v
+
+  advances-by : {p : Position} {h : Line} {f : Frame} {buffer : List ℕ} {s : Step} {r : Reception} {o : Outcome} {after : List ℕ} → Gives buffer (f .bytes) s r o after
+      → View p (h ▹ f) r after → Verdict h f (handed (size h) o (f .bytes) after) → Advances p h f buffer s
+  advances-by g w v = record { view = rw (g .leaves, g .reception) w; verdict = hands-out-by g v }
+
+  -- a single frame is handed out
+  pub single-out : {p : Position} {functional : Bool} {L : ℕ} {h : Line} {f : Frame} (after : List ℕ) → seen own unit f ≡ Single p functional L
+      → Verdict h f (handed (size h) (outcome.Single p functional L) (f .bytes) after)
+  unfolding handed
+  single-out {p} {functional} {L} {h} {f} after is =
+      one (ap (λ (m : List ℕ). record { at = size h; from = p; functional = functional; bytes = m } ∷ []) (shown-single after (f .bytes) p functional L)) (single is refl)
 
   -- ---- frames with which no request ends
   abbrev Silent : Judged → Type 0
@@ -93,38 +108,32 @@ module _ (own : Position) (unit : ℕ) where
       behind m = written buffer (regionAt p + (5 + 6 * k)) (take m (drop 2 (f .bytes)))
 
       gathers : (m total : ℕ) → m ≡ due L b → 5 + 6 * k + m ≡ total → 2 + due L b ≤ length (f .bytes) → take total (drop (regionAt p) (behind m)) ≡ b ++ take (due L b) (drop 2 (f .bytes))
-      unfolding regionAt
       gathers m total e u l =
           let i = bounded w in
-          let q = place-below p in
           let d = is-due in
           let c : List ℕ = take m (drop 2 (f .bytes)) in
           let lc : length c ≡ m = length-take-le m (drop 2 (f .bytes)) (simp length-drop (omega arith)) in
           let v : total ≡ 5 + 6 * k + length c = omega arith in
-          ap (λ (j : ℕ). take j (drop (256 * placeOf p) (written buffer (256 * placeOf p + (5 + 6 * k)) c))) v
-          ∙ grows buffer (256 * placeOf p) (5 + 6 * k) c (omega arith)
+          ap (λ (j : ℕ). take j (drop (regionAt p) (behind m))) v
+          ∙ grows buffer (regionAt p) (5 + 6 * k) c (omega (arith, region-fits p))
           ∙ ap (λ (j : ℕ). b ++ take j (drop 2 (f .bytes))) e
 
       advance-short : length (f .bytes) < 2 + due L b → Advances p h f buffer step
-      unfolding kept handed Follows
+      unfolding handed Follows
       advance-short l =
           let d = is-due in
           subst (Advances p h f buffer) (sym (followed-short L k t p n (length (f .bytes)) (f .stamp) is-open (omega arith)))
-          (record {
-            view = receiving refl (rw (kept-writes buffer (openWith L k t) (outcome.Refused (refusal 9)) (f .bytes)) (passes w (too-short is l)));
-            verdict = nothing refl (only-train is (follows w (passed-over (too-short is l)) .1));
-          })
+          (advances-by (kept-gives buffer (f .bytes) (openWith L k t) (outcome.Refused (refusal 9))) (receiving refl (passes w (too-short is l)))
+          (nothing refl (only-train is (follows w (passed-over (too-short is l)) .1))))
 
       not-first : (M : ℕ) → seen own unit f ≡ First p M → ⊥
       not-first M e = let z : _≡_ {A = ℕ} 0 1 = cc in omega arith
 
       ended-so : (why : Refusal) → Ends own unit p L k t b f → Advances p h f buffer (shut (outcome.Refused why))
-      unfolding shut kept handed Follows
+      unfolding handed Follows
       ended-so why e =
-          record {
-            view = resting refl (λ M i s c y. not-first M (follows w (ended e) .0 M i s c y .1));
-            verdict = nothing refl (only-train is (follows w (ended e) .1));
-          }
+          advances-by (shut-gives buffer (f .bytes) (outcome.Refused why)) (resting refl (λ M i s c y. not-first M (follows w (ended e) .0 M i s c y .1)))
+          (nothing refl (only-train is (follows w (ended e) .1)))
 
       advance-ended : Ends own unit p L k t b f → Advances p h f buffer step
       advance-ended (by-single e) = let z : _≡_ {A = ℕ} 0 1 = cc in absurd (omega arith)
@@ -140,7 +149,7 @@ module _ (own : Position) (unit : ℕ) where
           subst (Advances p h f buffer) (sym (followed-late L k t p n (length (f .bytes)) (f .stamp) is-open (omega arith) i x)) (ended-so _ (by-lateness e l x))
 
       advance-on : {c : List ℕ} → Next own unit p L k t b f c → length (b ++ c) < L → Advances p h f buffer step
-      unfolding handed due writtenBy Follows
+      unfolding handed due Follows
       advance-on {c} x l =
           let d = is-due in
           let i = bounded w in
@@ -149,13 +158,11 @@ module _ (own : Position) (unit : ℕ) where
           let enough = x .long-enough in
           let e : take (5 + 6 * suc k) (drop (regionAt p) (behind 6)) ≡ b ++ c = gathers 6 (5 + 6 * suc k) (omega arith) (omega arith) enough ∙ ap (λ (a : List ℕ). b ++ a) (sym (x .bytes)) in
           subst (Advances p h f buffer) (sym (followed-on L k t p n (length (f .bytes)) (f .stamp) is-open (omega arith) o (x .in-time) (omega arith)))
-          (record {
-            view = receiving refl (subst (Underway own unit p (h ▹ f) L (suc k) (f .stamp)) (sym e) (goes-on w x refl l));
-            verdict = nothing refl (only-train is (follows w (taken x l) .1));
-          })
+          (advances-by (stores-gives buffer (f .bytes) _ _ _ _ _) (receiving refl (subst (Underway own unit p (h ▹ f) L (suc k) (f .stamp)) (sym e) (goes-on w x refl l)))
+          (nothing refl (only-train is (follows w (taken x l) .1))))
 
       advance-last : {c : List ℕ} → Next own unit p L k t b f c → L ≤ length (b ++ c) → Advances p h f buffer step
-      unfolding handed shownOf due writtenBy Follows
+      unfolding handed due Follows
       advance-last {c} x l =
           let d = is-due in
           let i = bounded w in
@@ -165,10 +172,8 @@ module _ (own : Position) (unit : ℕ) where
           let e : take L (drop (regionAt p) (behind (L - (5 + 6 * k)))) ≡ b ++ c = gathers (L - (5 + 6 * k)) L (omega arith) (omega arith) enough ∙ ap (λ (a : List ℕ). b ++ a) (sym (x .bytes)) in
           let y = follows w (completes x l) in
           subst (Advances p h f buffer) (sym (followed-last L k t p n (length (f .bytes)) (f .stamp) is-open (omega arith) o (x .in-time) (omega arith)))
-          (record {
-            view = resting refl (y .1);
-            verdict = one (ap (λ (m : List ℕ). record { at = size h; from = p; functional = false; bytes = m } ∷ []) e) (train refl (y .0));
-          })
+          (advances-by (stores-gives buffer (f .bytes) _ _ _ _ _) (resting refl (y .1))
+          (one (ap (λ (m : List ℕ). record { at = size h; from = p; functional = false; bytes = m } ∷ []) (shown-train (behind (L - (5 + 6 * k))) (f .bytes) p L ∙ e)) (train refl (y .0))))
 
       advance-train : Fate own unit p L k t b f → Advances p h f buffer step
       unfolding physicalOf
@@ -180,40 +185,34 @@ module _ (own : Position) (unit : ℕ) where
 
     -- ---- each physical frame of p
     advance-consecutive : (n : ℕ) → seen own unit f ≡ Consecutive p n → View p h r buffer → Advances p h f buffer (followed r p n (length (f .bytes)) (f .stamp))
-    unfolding kept handed
+    unfolding handed
     advance-consecutive n is (resting e x) =
         subst (Advances p h f buffer) (sym (ap (λ (c : Reception). followed c p n (length (f .bytes)) (f .stamp)) e ∙ nothing-open p n (length (f .bytes)) (f .stamp)))
-        (record {
-          view = resting refl (rests-on x (λ M (d : seen own unit f ≡ First p M). let z : _≡_ {A = ℕ} 0 1 = cc in omega arith));
-          verdict = nothing refl (only-train is (λ m (y : Complete own unit p h f m). x _ _ _ _ (y .underway)));
-        })
+        (advances-by (kept-gives buffer (f .bytes) _ _) (resting refl (rests-on x (λ M (d : seen own unit f ≡ First p M). let z : _≡_ {A = ℕ} 0 1 = cc in omega arith)))
+        (nothing refl (only-train is (λ m (y : Complete own unit p h f m). x _ _ _ _ (y .underway)))))
     advance-consecutive n is (receiving {L} {k} {t} e w) =
         subst (λ (c : Reception). Advances p h f buffer (followed c p n (length (f .bytes)) (f .stamp))) (sym e) (advance-train L k t n is w (fate own unit p L k t _ f))
 
     opens : (L : ℕ) → seen own unit f ≡ First p L → take 5 (drop (regionAt p) (written buffer (regionAt p) (take 5 (drop 3 (f .bytes))))) ≡ take 5 (drop 3 (f .bytes))
-    unfolding regionAt
     opens L is =
         let s = fair own unit (f .identifier) (f .bytes) _ is .1 in
-        let q = place-below p in
         let c : List ℕ = take 5 (drop 3 (f .bytes)) in
         let lc : length c ≡ 5 = length-take-le 5 (drop 3 (f .bytes)) (simp length-drop (omega arith)) in
         let v : 5 ≡ 0 + length c = omega arith in
-        let a : 256 * placeOf p ≡ 256 * placeOf p + 0 = omega arith in
-        ap (λ (j : ℕ). take j (drop (256 * placeOf p) (written buffer (256 * placeOf p) c))) v
-        ∙ ap (λ (j : ℕ). take (0 + length c) (drop (256 * placeOf p) (written buffer j c))) a
-        ∙ grows buffer (256 * placeOf p) 0 c (omega arith)
+        let a : regionAt p ≡ regionAt p + 0 = omega arith in
+        ap (λ (j : ℕ). take j (drop (regionAt p) (written buffer (regionAt p) c))) v
+        ∙ ap (λ (j : ℕ). take (0 + length c) (drop (regionAt p) (written buffer j c))) a
+        ∙ grows buffer (regionAt p) 0 c (omega (arith, region-fits p))
 
     pub advance-mine : (j : Judged) → seen own unit f ≡ j → Mine p j → View p h r buffer → Advances p h f buffer (stepOf r j (length (f .bytes)) (f .stamp))
-    unfolding stepOf pick shut kept opened handed shownOf writtenBy
-    advance-mine _ is a-single v =
-        record {
-          view = resting refl (rests-ended v (λ M (d : seen own unit f ≡ First p M). let z : _≡_ {A = ℕ} 0 1 = cc in omega arith) (λ L k t b. by-single is));
-          verdict = one refl (single is refl);
-        }
-    advance-mine _ is (a-first {L}) v = record { view = receiving refl (begins is refl (opens L is)); verdict = nothing refl (none-stands (First p L) tt is) }
+    unfolding handed
+    advance-mine _ is (a-single {L}) v =
+        advances-by (physical-gives buffer (f .bytes) r (length (f .bytes)) (f .stamp) p L)
+        (resting refl (rests-ended v (λ M (d : seen own unit f ≡ First p M). let z : _≡_ {A = ℕ} 0 1 = cc in omega arith) (λ L k t b. by-single is))) (single-out buffer is)
+    advance-mine _ is (a-first {L}) v =
+        advances-by (first-gives buffer (f .bytes) r (length (f .bytes)) (f .stamp) p L) (receiving refl (begins is refl (opens L is))) (nothing refl (none-stands (First p L) tt is))
     advance-mine _ is an-over-long v =
-        record {
-          view = resting refl (rests-ended v (λ M (d : seen own unit f ≡ First p M). let z : _≡_ {A = ℕ} 0 1 = cc in omega arith) (λ L k t b. by-over-long is));
-          verdict = nothing refl (none-stands (OverLong p) tt is);
-        }
-    advance-mine _ is (a-consecutive {n}) v = advance-consecutive n is v
+        advances-by (over-long-gives buffer (f .bytes) r (length (f .bytes)) (f .stamp) p)
+        (resting refl (rests-ended v (λ M (d : seen own unit f ≡ First p M). let z : _≡_ {A = ℕ} 0 1 = cc in omega arith) (λ L k t b. by-over-long is))) (nothing refl (none-stands (OverLong p) tt is))
+    advance-mine _ is (a-consecutive {n}) v =
+        subst (Advances p h f buffer) (sym (consecutive-step buffer (f .bytes) r (length (f .bytes)) (f .stamp) p n)) (advance-consecutive n is v)

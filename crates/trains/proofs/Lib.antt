@@ -1,5 +1,4 @@
 -- Laws of sequences and of a node that is offered one, and the theorems of demand 3.
-pub mod LawsRegions
 pub mod LawsSequences
 pub mod LawsFates
 pub mod LawsViews
@@ -7,7 +6,6 @@ pub mod LawsOthers
 pub mod LawsTracks
 pub mod LawsCarried
 pub mod LawsOwn
-pub mod LawsCuts
 pub mod LawsReadBack
 pub mod LawsSent
 pub mod Examples

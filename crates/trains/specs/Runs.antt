@@ -2,12 +2,10 @@
 use mathlib.Core.Bool.{false}
 use mathlib.Core.List.{List, [], _∷_, _++_}
 use Prim.Native.Nat.{ℕ}
-use lib.ListN.{take}
 use Rattle.receiver.specs.declared.node.Node.{Node}
 use Rattle.receiver.specs.declared.step.Outcome.{Outcome}
 use Rattle.receiver.specs.declared.step.Outcome.the-variants.{Refused, OverLong, Opened, Taken, Single, Train}
 use Rattle.receiver.specs.declared.step.Received.{Received}
-use Rattle.receiver.specs.declared.cutter.FrameCut.{FrameCut}
 use Rattle.receiver.specs.Frames.{Frame}
 use Rattle.receiver.specs.Steps.{receivedOf, bufferAfter}
 use Rattle.receiver.specs.Shown.{shownOf}
@@ -47,7 +45,3 @@ handedAt x h f = handed (size h) (answer (offered x h) f .outcome) (f .bytes) (o
 unfoldable pub requests : Held → Line → List Request
 requests x start = []
 requests x (h ▹ f) = handedAt x h f ++ requests x h
-
--- a cut frame on the wire, sent at a stamp: no padding
-abbrev pub onWire : FrameCut → ℕ → Frame
-onWire c stamp = record { identifier = c .identifier; bytes = take (c .length) (c .«data»); stamp = stamp }

@@ -15,9 +15,8 @@ use Rattle.readings.specs.declared.position.Vehicle.the-variants.{At}
 use Rattle.receiver.specs.declared.frame.Judged.the-variants.{Refused, Single, First, OverLong, Consecutive}
 use Rattle.receiver.specs.Frames.{Frame}
 use Rattle.receiver.specs.Steps.{gapOf}
-use Rattle.receiver.specs.Cuts.{framesOf, cutOf}
+use Rattle.receiver.specs.Cuts.{framesOf, cutOf, onWire}
 use Rattle.trains.specs.Sequences.{Line, start, _▹_, physicalOf, due, seen, Elsewhere, Passed, Next, Underway, begins, passes, goes-on, Complete}
-use Rattle.trains.specs.Runs.{onWire}
 
 -- ---- sequences
 -- g goes on from h
@@ -100,15 +99,6 @@ module _ (own : Position) (unit : ℕ) where
     pub exact : length m ≡ a .L
     pub frames : 2 + length (followers (a .underway)) ≡ framesOf (a .L)
     pub bytes : m ≡ take (a .L) (take 5 (drop 3 (firstFrame (a .underway) .bytes)) ++ carried (f ∷ followers (a .underway)))
-
--- 16 "message of 0 or over 255, frame past the last, positions over 5 or equal"
-pub data Uncut (message : List ℕ) (k from to : ℕ) : Type 0 where
-  empty : length message ≡ 0 → Uncut message k from to
-  too-long : 255 < length message → Uncut message k from to
-  past-last : framesOf (length message) ≤ k → Uncut message k from to
-  no-sender : 5 < from → Uncut message k from to
-  no-receiver : 5 < to → Uncut message k from to
-  same-position : from ≡ to → Uncut message k from to
 
 module _ (own : Position) (unit : ℕ) (p : Position) (m : List ℕ) where
   -- frame k of the message m, cut for p to send to this address and unit, on the wire at stamp t

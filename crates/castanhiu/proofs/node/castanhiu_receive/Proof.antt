@@ -3,7 +3,7 @@ use mathlib.Core.Path.{ap}
 use native.Mathlib.Omega.{arith}
 use borrow.Author.Needs.{needs}
 use Rattle.receiver.specs.Nodes.{withReception}
-use Rattle.receiver.proofs.LawsSteps.{stored-moved, place-moved}
+use Rattle.receiver.proofs.LawsReceived.{stored-moved, place-moved}
 use Rattle.castanhiu.specs.Numbers.{receivedTold}
 use Rattle.castanhiu.proofs.node.castanhiu_receive.Statement.{statement}
 use Rattle.castanhiu.proofs.node.castanhiu_receive.Tie as tie

@@ -2,10 +2,9 @@
 use mathlib.Core.Path.{sym, _∙_}
 use borrow.Author.Needs.{needs}
 use borrow.Author.Tests.{eq-eqb, ne-eqb}
-use Rattle.identifiers.specs.Bytes.{written}
 use Rattle.identifiers.proofs.LawsChoice.{taken, passed}
-use Rattle.receiver.specs.Cuts.{headed, controlOf}
-use Rattle.receiver.proofs.LawsPieces.{none-else, between-first, between-second, between-both}
+use Rattle.receiver.specs.Cuts.{controlOf}
+use Rattle.receiver.proofs.LawsPieces.{headed-control, none-else, between-first, between-second, between-both}
 use Rattle.receiver.proofs.cutter.flow_control.Statement.{statement}
 use Rattle.receiver.proofs.cutter.flow_control.Tie as tie
 
@@ -26,14 +25,14 @@ unfolding controlOf
 returns-3 c = taken _ (eq-eqb _ _ (c .before .if1 .taken)) (c .refused3 .ensures)
 
 returns-4 : tie.Need-returns-4
-unfolding controlOf headed written
+unfolding controlOf
 returns-4 c =
     let at-receiver = c .before .before .before .before in
     let at-at2 = at-receiver .before .before in
     let at-sender = at-at2 .before .before in
     let at-at = at-sender .before .before in
     passed _ (ne-eqb _ _ (c .before .before .if1 .left))
-    ((c .frame .ensures) ∙ rw (c .before .status .ensures) (sym (between-both _ _ _ _ _ (sym (at-at .at .ensures) ∙ (at-sender .sender .given .1)) (sym (at-at2 .at2 .ensures) ∙ (at-receiver .receiver .given .1)))))
+    ((c .frame .ensures) ∙ headed-control _ _ _ _ ∙ rw (c .before .status .ensures) (sym (between-both _ _ _ _ _ (sym (at-at .at .ensures) ∙ (at-sender .sender .given .1)) (sym (at-at2 .at2 .ensures) ∙ (at-receiver .receiver .given .1)))))
 
 pub flow-control-spec : {M : Type 1} → statement M
 flow-control-spec =

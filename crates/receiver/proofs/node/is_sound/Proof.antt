@@ -1,7 +1,7 @@
 -- `is_sound` meets its contract: the two halves of the rules are the rules.
 use mathlib.Core.Path.{sym, _∙_}
 use Rattle.identifiers.proofs.LawsChoice.{and-is}
-use Rattle.receiver.proofs.LawsNodes.{halves}
+use Rattle.receiver.proofs.LawsRules.{halves}
 use Rattle.receiver.proofs.node.is_sound.Statement.{statement}
 use Rattle.receiver.proofs.node.is_sound.Tie as tie
 

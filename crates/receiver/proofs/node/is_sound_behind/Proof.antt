@@ -9,7 +9,7 @@ use Rattle.identifiers.proofs.LawsBelow.{all-fails}
 use Rattle.receiver.specs.declared.node.Node.{Node}
 use Rattle.receiver.specs.Receptions.{soundReception}
 use Rattle.receiver.specs.Nodes.{receptionAt, soundBehind}
-use Rattle.receiver.proofs.LawsNodes.{third-decides}
+use Rattle.receiver.proofs.LawsRules.{third-decides}
 use Rattle.receiver.proofs.node.is_sound_behind.Statement.{statement}
 use Rattle.receiver.proofs.node.is_sound_behind.Tie as tie
 

@@ -12,7 +12,7 @@ use Rattle.identifiers.proofs.LawsChoice.{stop, so}
 use Rattle.receiver.specs.declared.node.Node.{Node}
 use Rattle.receiver.specs.Receptions.{soundReception}
 use Rattle.receiver.specs.Nodes.{receptionAt, soundInFront}
-use Rattle.receiver.proofs.LawsNodes.{third-decides}
+use Rattle.receiver.proofs.LawsRules.{third-decides}
 use Rattle.receiver.proofs.node.is_sound_in_front.Statement.{statement}
 use Rattle.receiver.proofs.node.is_sound_in_front.Tie as tie
 

@@ -6,7 +6,8 @@ use borrow.Author.Tests.{lt-ltb, le-ltb, eq-eqb, ne-eqb}
 use Rattle.identifiers.proofs.LawsChoice.{taken, passed}
 use Rattle.receiver.specs.declared.reception.Reception.{Reception}
 use Rattle.receiver.specs.Steps.{shut, doneOf, leftOf, followed}
-use Rattle.receiver.proofs.LawsSteps.{open-facts, unwritten}
+use Rattle.receiver.proofs.LawsRules.{open-facts}
+use Rattle.receiver.proofs.LawsSteps.{unwritten}
 use Rattle.receiver.proofs.step.follow.Statement.{statement}
 use Rattle.receiver.proofs.step.follow.Tie as tie
 

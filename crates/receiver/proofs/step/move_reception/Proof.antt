@@ -16,7 +16,8 @@ use Rattle.receiver.specs.Nodes.{receptionAt}
 use Rattle.receiver.specs.Frames.{judgedOf}
 use Rattle.receiver.specs.Steps.{judgedPlace, stepOf, stepBy, movedBy, movedAt, movedOf, writtenBy, bufferAt, bufferAfter}
 use Rattle.receiver.proofs.LawsFrames.{fair}
-use Rattle.receiver.proofs.LawsSteps.{sound-at, not-ready, ready-own, ready}
+use Rattle.receiver.proofs.LawsRules.{sound-at}
+use Rattle.receiver.proofs.LawsReceived.{not-ready, ready-own, ready}
 use Rattle.receiver.proofs.step.move_reception.Statement.{statement}
 use Rattle.receiver.proofs.step.move_reception.Tie as tie
 

@@ -2,7 +2,7 @@
 use native.Mathlib.Omega.{arith}
 use borrow.Author.Needs.{needs}
 use Rattle.receiver.specs.Nodes.{withReception}
-use Rattle.receiver.proofs.LawsSteps.{stored-moved, place-moved}
+use Rattle.receiver.proofs.LawsReceived.{stored-moved, place-moved}
 use Rattle.receiver.proofs.step.receive.Statement.{statement}
 use Rattle.receiver.proofs.step.receive.Tie as tie
 

@@ -5,7 +5,7 @@ use borrow.Author.Needs.{needs}
 use borrow.Author.Tests.{lt-ltb, le-ltb}
 use Rattle.identifiers.proofs.LawsChoice.{taken, passed}
 use Rattle.receiver.specs.Steps.{regionAt, doneOf, leftOf, takenStep, writtenBy}
-use Rattle.receiver.proofs.LawsSteps.{open-facts}
+use Rattle.receiver.proofs.LawsRules.{open-facts}
 use Rattle.receiver.proofs.step.take.Statement.{statement}
 use Rattle.receiver.proofs.step.take.Tie as tie
 

@@ -1,0 +1,63 @@
+-- A consecutive frame, one law a rung: nothing open, too short, a wrong number, late, taken, the last.
+use mathlib.Core.Path.{_≡_, refl, _∙_}
+use mathlib.Core.Bool.{true}
+use mathlib.Core.Logic.{_≢_}
+use Prim.Native.Nat.{ℕ, suc, _+_, _-_, _*_, _%_, _^_, _≤_, _<_, min}
+use native.Mathlib.Numerals.{add-one}
+use native.Mathlib.Omega.{arith}
+use borrow.Author.Tests.{lt-ltb, le-ltb, eq-eqb, ne-eqb}
+use lib.Dec.{eqb}
+use Rattle.identifiers.specs.Choice.{pick}
+use Rattle.identifiers.specs.Refusals.{refusal}
+use Rattle.identifiers.proofs.LawsChoice.{pick-true, pick-false}
+use Rattle.readings.specs.declared.position.Position.{Position}
+use Rattle.receiver.specs.declared.step.Outcome.the-variants.{Refused, Taken, Train}
+use Rattle.receiver.specs.Receptions.{closed, openWith}
+use Rattle.receiver.specs.Steps.{gapOf, regionAt, kept, shut, doneOf, leftOf, takenStep, followed}
+
+pub nothing-open : (from : Position) (number count stamp : ℕ) → followed closed from number count stamp ≡ kept closed (Refused (refusal 12))
+unfolding followed pick
+nothing-open from number count stamp = refl
+
+module _ (L k t : ℕ) (from : Position) (number count stamp : ℕ) (is-open : L ≢ 0) where
+  abbrev m : ℕ
+  m = min 6 (L - (5 + 6 * k))
+
+  pub followed-short : count < 2 + m → followed (openWith L k t) from number count stamp ≡ kept (openWith L k t) (Refused (refusal 9))
+  unfolding followed leftOf doneOf
+  followed-short h = pick-false _ _ (ne-eqb _ _ is-open) ∙ pick-true _ _ (lt-ltb _ _ h)
+
+  module _ (enough : 2 + m ≤ count) where
+    pub followed-wrong : number ≢ suc k % 16 → followed (openWith L k t) from number count stamp ≡ shut (Refused (refusal 13))
+    unfolding followed leftOf doneOf
+    followed-wrong h =
+        let n : number ≢ (k + 1) % 16 = rw (add-one k) h in
+        pick-false _ _ (ne-eqb _ _ is-open) ∙ pick-false _ _ (le-ltb _ _ enough) ∙ pick-false _ _ (ne-eqb _ _ n)
+
+    module _ (in-order : number ≡ suc k % 16) where
+      at-number : eqb number ((k + 1) % 16) ≡ true
+      at-number = rw (add-one k) (eq-eqb _ _ in-order)
+
+      pub followed-late : 150 < gapOf stamp t → followed (openWith L k t) from number count stamp ≡ shut (Refused (refusal 14))
+      unfolding followed leftOf doneOf
+      followed-late h = pick-false _ _ (ne-eqb _ _ is-open) ∙ pick-false _ _ (le-ltb _ _ enough) ∙ pick-true _ _ at-number ∙ pick-true _ _ (lt-ltb _ _ h)
+
+      module _ (in-time : gapOf stamp t ≤ 150) where
+        followed-taken : followed (openWith L k t) from number count stamp ≡ takenStep (openWith L k t) from stamp
+        unfolding followed leftOf doneOf
+        followed-taken = pick-false _ _ (ne-eqb _ _ is-open) ∙ pick-false _ _ (le-ltb _ _ enough) ∙ pick-true _ _ at-number ∙ pick-false _ _ (le-ltb _ _ in-time)
+
+        pub followed-on : 6 < L - (5 + 6 * k) → followed (openWith L k t) from number count stamp
+            ≡ record { reception = openWith L (suc k) stamp; at = regionAt from + (5 + 6 * k); start = 2; count = 6; outcome = Taken from }
+        unfolding takenStep leftOf doneOf
+        followed-on h = followed-taken ∙ pick-true _ _ (lt-ltb _ _ h) ∙ rw (add-one k)
+
+        pub followed-last : L - (5 + 6 * k) ≤ 6 → followed (openWith L k t) from number count stamp
+            ≡ record { reception = closed; at = regionAt from + (5 + 6 * k); start = 2; count = L - (5 + 6 * k); outcome = Train from L }
+        unfolding takenStep leftOf doneOf
+        followed-last h = followed-taken ∙ pick-false _ _ (le-ltb _ _ h)
+
+-- a stamp's gap from itself
+pub gap-same : (stamp : ℕ) → stamp < 2 ^ 32 → gapOf stamp stamp ≡ 0
+unfolding gapOf
+gap-same stamp h = let e : stamp + (2 ^ 32 - stamp) ≡ 2 ^ 32 = omega arith in rw e

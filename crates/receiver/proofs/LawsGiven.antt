@@ -1,0 +1,81 @@
+-- What a step gives, by the frame that is judged: the vehicle's reception, the outcome, and the buffer afterwards; and what is then shown.
+use mathlib.Core.Path.{_≡_, refl}
+use mathlib.Core.Bool.{Bool, true, false}
+use mathlib.Core.List.{List}
+use Prim.Native.Nat.{ℕ}
+use lib.ListN.{take, drop}
+use Rattle.identifiers.specs.Choice.{pick}
+use Rattle.identifiers.specs.Bytes.{written}
+use Rattle.identifiers.specs.declared.refusal.Refusal.{Refusal}
+use Rattle.readings.specs.declared.position.Position.{Position}
+use Rattle.receiver.specs.declared.reception.Reception.{Reception}
+use Rattle.receiver.specs.declared.frame.Judged.the-variants as judged
+use Rattle.receiver.specs.declared.step.Step.{Step}
+use Rattle.receiver.specs.declared.step.Outcome.{Outcome}
+use Rattle.receiver.specs.declared.step.Outcome.the-variants.{Refused, OverLong, Opened, Single, Train}
+use Rattle.receiver.specs.Receptions.{closed, openWith}
+use Rattle.receiver.specs.Steps.{regionAt, kept, shut, opened, followed, stepOf, writtenBy}
+use Rattle.receiver.specs.Shown.{shownOf}
+use Rattle.receiver.proofs.LawsSteps.{kept-writes}
+
+-- of a step by a frame with these data bytes, with this buffer
+pub record Gives (buffer bytes : List ℕ) (s : Step) (r : Reception) (o : Outcome) (after : List ℕ) : Type 0 where
+  pub reception : s .reception ≡ r
+  pub outcome : s .outcome ≡ o
+  pub leaves : writtenBy buffer s bytes ≡ after
+
+module _ (buffer bytes : List ℕ) where
+  -- nothing changes; the reception is closed; bytes of the frame are written
+  pub kept-gives : (r : Reception) (o : Outcome) → Gives buffer bytes (kept r o) r o buffer
+  unfolding kept
+  kept-gives r o = record { reception = refl; outcome = refl; leaves = kept-writes buffer r o bytes }
+
+  pub shut-gives : (o : Outcome) → Gives buffer bytes (shut o) closed o buffer
+  unfolding shut
+  shut-gives o = kept-gives closed o
+
+  pub stores-gives : (r : Reception) (at start count : ℕ) (o : Outcome)
+      → Gives buffer bytes (record { reception = r; at = at; start = start; count = count; outcome = o }) r o (written buffer at (take count (drop start bytes)))
+  unfolding writtenBy
+  stores-gives r at start count o = record { reception = refl; outcome = refl; leaves = refl }
+
+  module _ (r : Reception) (count stamp : ℕ) where
+    -- "A refusal .. leaves state and buffers as found"
+    pub refused-gives : (why : Refusal) → Gives buffer bytes (stepOf r (judged.Refused why) count stamp) r (Refused why) buffer
+    unfolding stepOf
+    refused-gives why = kept-gives r (Refused why)
+
+    module _ (from : Position) where
+      -- "Functional frames are single only and touch no reception"
+      pub functional-gives : (L : ℕ) → Gives buffer bytes (stepOf r (judged.Single from true L) count stamp) r (Single from true L) buffer
+      unfolding stepOf pick
+      functional-gives L = kept-gives r (Single from true L)
+
+      -- "A physical single frame, .. an over-long one .. ends the open reception"
+      pub physical-gives : (L : ℕ) → Gives buffer bytes (stepOf r (judged.Single from false L) count stamp) closed (Single from false L) buffer
+      unfolding stepOf pick
+      physical-gives L = shut-gives (Single from false L)
+
+      pub over-long-gives : Gives buffer bytes (stepOf r (judged.OverLong from) count stamp) closed (OverLong from) buffer
+      unfolding stepOf
+      over-long-gives = shut-gives (OverLong from)
+
+      -- "A first frame opens it anew", and its five message bytes begin the vehicle's part of the buffer
+      pub first-gives : (L : ℕ)
+          → Gives buffer bytes (stepOf r (judged.First from L) count stamp) (openWith L 0 stamp) (Opened from) (written buffer (regionAt from) (take 5 (drop 3 bytes)))
+      unfolding stepOf opened
+      first-gives L = stores-gives (openWith L 0 stamp) (regionAt from) 3 5 (Opened from)
+
+      -- a consecutive frame goes by the rungs of LawsFollowed
+      pub consecutive-step : (number : ℕ) → stepOf r (judged.Consecutive from number) count stamp ≡ followed r from number count stamp
+      unfolding stepOf
+      consecutive-step number = refl
+
+  -- "The shown message is a part of the frame's own data or of the reception buffer"
+  pub shown-single : (from : Position) (functional : Bool) (L : ℕ) → shownOf bytes buffer (Single from functional L) ≡ take L (drop 2 bytes)
+  unfolding shownOf
+  shown-single from functional L = refl
+
+  pub shown-train : (from : Position) (L : ℕ) → shownOf bytes buffer (Train from L) ≡ take L (drop (regionAt from) buffer)
+  unfolding shownOf
+  shown-train from L = refl
