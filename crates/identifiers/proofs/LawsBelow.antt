@@ -17,6 +17,10 @@ pub all-none : (p : ℕ → Bool) → allBelow p 0 ≡ true
 unfolding allBelow
 all-none p = refl
 
+pub all-suc : (p : ℕ → Bool) (n : ℕ) → allBelow p (suc n) ≡ both (allBelow p n) (p n)
+unfolding allBelow
+all-suc p n = refl
+
 pub all-more : (p : ℕ → Bool) (n : ℕ) → allBelow p n ≡ true → p n ≡ true → allBelow p (n + 1) ≡ true
 unfolding allBelow both
 all-more p n h e = rw (add-one n, h, e)
@@ -60,6 +64,10 @@ pub count-none : (p : ℕ → Bool) → countBelow p 0 ≡ 0
 unfolding countBelow
 count-none p = refl
 
+pub count-suc : (p : ℕ → Bool) (n : ℕ) → countBelow p (suc n) ≡ pick (p n) (countBelow p n + 1) (countBelow p n)
+unfolding countBelow
+count-suc p n = refl
+
 pub count-hit : (p : ℕ → Bool) (n : ℕ) → p n ≡ true → countBelow p (n + 1) ≡ countBelow p n + 1
 unfolding countBelow pick
 count-hit p n e = rw (add-one n, e)
@@ -72,6 +80,11 @@ pub count-each : (p q : ℕ → Bool) (n : ℕ) → ((i : ℕ) → i < n → p i
 unfolding countBelow
 count-each p q zero h = refl
 count-each p q (suc n) h = rw (count-each p q n (λ i l. h i (omega arith)), h n (omega arith))
+
+pub count-all : (p : ℕ → Bool) (n : ℕ) → ((i : ℕ) → i < n → p i ≡ true) → countBelow p n ≡ n
+unfolding countBelow pick
+count-all p zero h = refl
+count-all p (suc n) h = rw (count-all p n (λ i l. h i (omega arith)), h n (omega arith)) (add-one n)
 
 one-more : (b : Bool) (x n : ℕ) → x ≤ n → pick b (x + 1) x ≤ suc n
 unfolding pick
@@ -87,6 +100,10 @@ count-le p (suc n) = one-more (p n) (countBelow p n) n (count-le p n)
 pub list-none : (f : ℕ → List ℕ) → listBelow f 0 ≡ []
 unfolding listBelow
 list-none f = refl
+
+pub list-suc : (f : ℕ → List ℕ) (n : ℕ) → listBelow f (suc n) ≡ listBelow f n ++ f n
+unfolding listBelow
+list-suc f n = refl
 
 pub list-more : (f : ℕ → List ℕ) (n : ℕ) → listBelow f (n + 1) ≡ listBelow f n ++ f n
 unfolding listBelow
