@@ -7,8 +7,7 @@ use native.Mathlib.Numerals.{add-one}
 use native.Mathlib.Omega.{arith}
 use lib.ListN.{getD, set, length, length-append}
 use Rattle.identifiers.specs.Choice.{pick}
-use Rattle.identifiers.specs.Below.{countBelow, listBelow}
-use Rattle.identifiers.proofs.LawsBelow.{count-le}
+use Rattle.identifiers.proofs.LawsBelow.{count-none, count-suc, count-le, list-none, list-suc}
 use Rattle.server.specs.Faults.{listed, countListed, codeAndStatus, listedAt, reportOf, inGroup, clearedBelow}
 
 pub listed-hit : (codes statuses : List ℕ) (all : Bool) (mask i : ℕ) → listed all mask (getD statuses i 0) ≡ true → codeAndStatus (getD codes i 0) (getD statuses i 0) ≡ listedAt codes statuses all mask i
@@ -26,11 +25,12 @@ four false xs ys m h e = omega (arith, length-append xs [])
 
 -- a report has four bytes for each code that is listed
 pub length-report : (codes statuses : List ℕ) (all : Bool) (mask n : ℕ) → length (reportOf codes statuses all mask n) ≡ 4 * countListed statuses all mask n
-unfolding reportOf countListed listBelow countBelow listedAt codeAndStatus
-length-report codes statuses all mask zero = refl
+unfolding reportOf countListed listedAt codeAndStatus
+length-report codes statuses all mask zero = rw (list-none, count-none)
 length-report codes statuses all mask (suc n) =
-    four (listed all mask (getD statuses n 0)) (reportOf codes statuses all mask n) (codeAndStatus (getD codes n 0) (getD statuses n 0)) (countListed statuses all mask n) refl
-    (length-report codes statuses all mask n)
+    rw (list-suc, count-suc)
+    (four (listed all mask (getD statuses n 0)) (reportOf codes statuses all mask n) (codeAndStatus (getD codes n 0) (getD statuses n 0)) (countListed statuses all mask n) refl
+    (length-report codes statuses all mask n))
 
 pub count-listed-le : (statuses : List ℕ) (all : Bool) (mask n : ℕ) → countListed statuses all mask n ≤ n
 unfolding countListed

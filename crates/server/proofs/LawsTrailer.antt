@@ -1,5 +1,5 @@
 -- What a record that keeps its rules has, rule by rule.
-use mathlib.Core.Path.{_≡_, refl, sym, ap}
+use mathlib.Core.Path.{_≡_, refl, sym, ap, _∙_}
 use mathlib.Core.Bool.{Bool, true, false, _&&_}
 use mathlib.Core.Logic.{⊎-elim}
 use mathlib.Core.List.{List}
@@ -13,7 +13,7 @@ use lib.ListN.{getD}
 use Rattle.identifiers.specs.Choice.{both}
 use Rattle.identifiers.specs.Below.{allBelow}
 use Rattle.identifiers.proofs.LawsChoice.{stop, so, both-true, both-false, and-is}
-use Rattle.identifiers.proofs.LawsBelow.{all-at, all-each, all-fails}
+use Rattle.identifiers.proofs.LawsBelow.{all-suc, all-at, all-each, all-fails}
 use Rattle.server.specs.Mask.{maskKept}
 use Rattle.server.specs.Trailer.{ascending, codesBelow, statusesWithin, lengthsWithin, soundRecord, soundFields}
 use Rattle.server.specs.declared.trailer.TrailerRecord.{TrailerRecord}
@@ -46,10 +46,9 @@ length-within lengths held k e l = let b = both-true _ _ (all-at _ k held e l) i
 
 -- ---- the codes: the last of those that ascend is the greatest
 last-greatest : (codes : List ℕ) (n : ℕ) → allBelow (λ i. ltb (getD codes i 0) (getD codes (i + 1) 0)) n ≡ true → (i : ℕ) → i ≤ n → getD codes i 0 ≤ getD codes n 0
-unfolding allBelow
 last-greatest codes zero e i l = let q : i ≡ zero = omega arith in rw q (omega arith)
 last-greatest codes (suc n) e i l =
-    let s = both-true _ _ e in
+    let s = both-true _ _ (sym (all-suc _ n) ∙ e) in
     ⊎-elim (λ (q : i ≡ suc n). rw q (omega arith))
     (λ (q : i < suc n). omega (arith, last-greatest codes n (s .0) i (omega arith), ltb-true (getD codes n 0) (getD codes (n + 1) 0) (s .1), ap (λ (k : ℕ). getD codes k 0) (add-one n))) (eq-or-lt-of-le l)
 

@@ -1,9 +1,8 @@
 -- `put_code_and_status` meets its contract: four stores in a row.
-use mathlib.Core.Path.{refl}
 use native.Mathlib.Omega.{arith}
 use borrow.Author.Needs.{needs}
 use lib.ListN.{length-set}
-use Rattle.identifiers.specs.Bytes.{written}
+use Rattle.identifiers.proofs.LawsBytes.{puts-byte, _▸_}
 use Rattle.server.specs.Faults.{codeAndStatus}
 use Rattle.server.proofs.faults.put_code_and_status.Statement.{statement}
 use Rattle.server.proofs.faults.put_code_and_status.Tie as tie
@@ -18,8 +17,8 @@ slice-write-response-4 : tie.Need-slice-write-response-4
 slice-write-response-4 c = simp length-set (omega arith)
 
 returns : tie.Need-returns
-unfolding written codeAndStatus
-returns c = record { ends = omega arith; holds = refl }
+unfolding codeAndStatus
+returns c = puts-byte _ _ _ ▸ puts-byte _ _ _ ▸ puts-byte _ _ _ ▸ puts-byte _ _ _
 
 pub put-code-and-status-spec : {M : Type 1} → statement M
 put-code-and-status-spec = tie.close (tie.spec

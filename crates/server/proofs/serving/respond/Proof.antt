@@ -1,10 +1,7 @@
 -- `respond` meets its contract: each return stands at its rung, and what is written is what the rung says.
 use mathlib.Core.Path.{refl, sym, ap, _∙_}
-use Prim.Native.Nat.{ℕ}
 use borrow.Author.Tests.{not-true, not-false}
 use borrow.Author.Needs.{needs}
-use Rattle.identifiers.specs.Bytes.{written}
-use Rattle.server.specs.Requests.{serviceOf}
 use Rattle.server.specs.Server.{negativeOf, negativeBytes, positiveOf, withStatuses}
 use Rattle.server.proofs.LawsTrailer.{sound-has}
 use Rattle.server.proofs.LawsServer.{positive-form, right-lengths, ends, outcome-1, outcome-17, outcome-silent, outcome-negative, outcome-positive}
