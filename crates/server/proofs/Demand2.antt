@@ -56,15 +56,15 @@ pub record ClearSent (t : TrailerRecord) (request : List ℕ) (functional : Bool
   pub answer : outcomeOf t request functional response .answer ≡ Sent 1
   pub sent : outcomeOf t request functional response .response ≡ written response 0 (0x54 ∷ [])
 
-not-cleared : (t : TrailerRecord) (request : List ℕ) → eqb (serviceOf request) 0x14 ≡ false → withStatuses t (statusesAfter (t .codes) (t .statuses) (t .count) (t .availability) request) ≡ t
+pub not-cleared : (t : TrailerRecord) (request : List ℕ) → eqb (serviceOf request) 0x14 ≡ false → withStatuses t (statusesAfter (t .codes) (t .statuses) (t .count) (t .availability) request) ≡ t
 unfolding withStatuses statusesAfter
 not-cleared t request e = ap (withStatuses t) (pick-false _ _ e)
 
-cleared : (t : TrailerRecord) (request : List ℕ) → serviceOf request ≡ 0x14 → statusesAfter (t .codes) (t .statuses) (t .count) (t .availability) request ≡ clearedBelow (t .codes) (t .statuses) (groupOf request) (bitAnd 0x50 (t .availability)) (t .count)
+pub cleared : (t : TrailerRecord) (request : List ℕ) → serviceOf request ≡ 0x14 → statusesAfter (t .codes) (t .statuses) (t .count) (t .availability) request ≡ clearedBelow (t .codes) (t .statuses) (groupOf request) (bitAnd 0x50 (t .availability)) (t .count)
 unfolding statusesAfter
 cleared t request e = pick-true _ _ (eq-eqb _ _ e)
 
-bytes-14 : (t : TrailerRecord) (request : List ℕ) → serviceOf request ≡ 0x14 → positiveOf t request ≡ 0x54 ∷ []
+pub bytes-14 : (t : TrailerRecord) (request : List ℕ) → serviceOf request ≡ 0x14 → positiveOf t request ≡ 0x54 ∷ []
 unfolding positiveOf positiveFields
 bytes-14 t request e = pick-true _ _ (eq-eqb _ _ e)
 

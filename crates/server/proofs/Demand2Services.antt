@@ -15,31 +15,18 @@ use lib.Seq.{take-suc, getD-drop}
 use Rattle.identifiers.specs.Choice.{pick, either}
 use Rattle.identifiers.specs.Below.{listBelow}
 use Rattle.identifiers.proofs.LawsChoice.{pick-true, pick-false, was-taken}
-use Rattle.identifiers.proofs.LawsBelow.{all-at, count-each, list-each, list-none, list-more, length-more, length-mono}
+use Rattle.identifiers.proofs.LawsBelow.{all-at, count-each, list-each, list-none, list-suc, list-more, length-more, length-mono}
 use Rattle.server.specs.Places.{heldAmong, placeOf}
 use Rattle.server.specs.Trailer.{statusWithin, statusesWithin, soundRecord}
-use Rattle.server.specs.Faults.{matches, listed, countListed, twoBytes, codeAndStatus, listedAt, reportOf}
+use Rattle.server.specs.Faults.{matches, listed, countListed, codeAndStatus, listedAt, reportOf}
 use Rattle.server.specs.DataIdentifiers.{askedCount, askedAt, dataAt, dataOf, identifierAndData, answerTo, answerAt, answersOf}
-use Rattle.server.specs.Requests.{serviceOf, subFunctionOf, maskOf}
-use Rattle.server.specs.Server.{faultsOf, contentOf22, positiveFields, positiveOf}
+use Rattle.server.specs.Server.{contentOf22}
 use Rattle.server.specs.declared.trailer.TrailerRecord.{TrailerRecord}
 use Rattle.server.proofs.LawsTrailer.{sound-has}
 use Rattle.server.proofs.LawsFaults.{length-report}
 use Rattle.server.proofs.LawsDataIdentifiers.{length-identifier}
 
--- ---- 19: the count in two bytes, high first; the report; and that the count is the number of codes that the report lists
-pub count-answer : (t : TrailerRecord) (mask : ℕ) → positiveOf t (0x19 ∷ 0x01 ∷ mask ∷ []) ≡ 0x59 ∷ 0x01 ∷ t .availability ∷ 0x03 ∷ countListed (t .statuses) false mask (t .count) / 256 % 256 ∷ countListed (t .statuses) false mask (t .count) % 256 ∷ []
-unfolding positiveOf positiveFields serviceOf subFunctionOf maskOf faultsOf twoBytes pick
-count-answer t mask = refl
-
-pub report-answer : (t : TrailerRecord) (mask : ℕ) → positiveOf t (0x19 ∷ 0x02 ∷ mask ∷ []) ≡ 0x59 ∷ 0x02 ∷ t .availability ∷ reportOf (t .codes) (t .statuses) false mask (t .count)
-unfolding positiveOf positiveFields serviceOf subFunctionOf maskOf faultsOf pick
-report-answer t mask = refl
-
-pub all-answer : (t : TrailerRecord) → positiveOf t (0x19 ∷ 0x0A ∷ []) ≡ 0x59 ∷ 0x0A ∷ t .availability ∷ reportOf (t .codes) (t .statuses) true 0 (t .count)
-unfolding positiveOf positiveFields serviceOf subFunctionOf maskOf faultsOf pick
-all-answer t = refl
-
+-- ---- 19: the count is the number of codes that the report lists
 pub counts-what-is-listed : (t : TrailerRecord) (mask : ℕ) → length (reportOf (t .codes) (t .statuses) false mask (t .count)) ≡ 4 * countListed (t .statuses) false mask (t .count)
 counts-what-is-listed t mask = length-report (t .codes) (t .statuses) false mask (t .count)
 
@@ -122,9 +109,9 @@ module _ (identifiers lengths bytes : List ℕ) (held : ℕ) (request : List ℕ
 
 -- the data of the identifier at place k: its own bytes, a part of the record's
 part : (bytes : List ℕ) (k n : ℕ) → n ≤ length (drop (32 * k) bytes) → listBelow (dataAt bytes k) n ≡ take n (drop (32 * k) bytes)
-unfolding dataAt listBelow
-part bytes k zero h = refl
-part bytes k (suc n) h = ap (λ (l : List ℕ). l ++ (getD bytes (32 * k + n) 0 ∷ [])) (part bytes k n (omega arith)) ∙ ap (λ (x : ℕ). take n (drop (32 * k) bytes) ++ (x ∷ [])) (sym (getD-drop (32 * k) bytes n 0)) ∙ sym (take-suc (drop (32 * k) bytes) n 0 (omega arith))
+unfolding dataAt
+part bytes k zero h = list-none _
+part bytes k (suc n) h = list-suc _ n ∙ ap (λ (l : List ℕ). l ++ (getD bytes (32 * k + n) 0 ∷ [])) (part bytes k n (omega arith)) ∙ ap (λ (x : ℕ). take n (drop (32 * k) bytes) ++ (x ∷ [])) (sym (getD-drop (32 * k) bytes n 0)) ∙ sym (take-suc (drop (32 * k) bytes) n 0 (omega arith))
 
 pub data-is-part : (lengths bytes : List ℕ) (k : ℕ) → length bytes ≡ 512 → k < 16 → getD lengths k 0 ≤ 32 → dataOf lengths bytes k ≡ take (getD lengths k 0) (drop (32 * k) bytes)
 unfolding dataOf

@@ -82,3 +82,10 @@ held-some l n x i h e = by (heldAmong l n x) refl
     by : (b : Bool) → heldAmong l n x ≡ b → heldAmong l n x ≡ true
     by true q = q
     by false q = absurd (not-held l n x q i h e)
+
+pub held-nowhere : (l : List ℕ) (n x : ℕ) → ((i : ℕ) → i < n → getD l i 0 ≡ x → ⊥) → heldAmong l n x ≡ false
+held-nowhere l n x h = by (heldAmong l n x) refl
+  where
+    by : (b : Bool) → heldAmong l n x ≡ b → heldAmong l n x ≡ false
+    by true q = absurd (h (placeOf l n x) (held-at l n x q .0) (held-at l n x q .1))
+    by false q = q

@@ -7,7 +7,7 @@ use native.Mathlib.Omega.{arith}
 use borrow.Author.Tests.{eq-eqb, ne-eqb, eqb-true, eqb-false, ltb-false, le-ltb, not-false}
 use lib.Dec.{eqb}
 use lib.ListN.{length, set}
-use Rattle.identifiers.specs.Choice.{pick}
+use Rattle.identifiers.specs.Choice.{pick, either}
 use Rattle.identifiers.specs.Bytes.{written}
 use Rattle.identifiers.specs.Refusals.{refusal}
 use Rattle.identifiers.proofs.LawsChoice.{taken, passed, pick-true, pick-false, was-passed, either-false}
@@ -23,7 +23,7 @@ use Rattle.server.specs.declared.serving.Answer.{Answer}
 use Rattle.server.specs.declared.serving.Answer.the-variants.{Refused, Silent, Sent}
 use Rattle.server.specs.declared.status.StatusAnswer.{StatusAnswer}
 use Rattle.server.specs.declared.status.StatusAnswer.the-variants as status
-use Rattle.server.proofs.LawsFaults.{length-report}
+use Rattle.server.proofs.LawsFaults.{length-report, count-listed-le}
 
 -- ---- the body of service 19
 module _ (codes statuses : List ℕ) (count : ℕ) (request : List ℕ) where
@@ -41,6 +41,17 @@ module _ (codes statuses : List ℕ) (count : ℕ) (request : List ℕ) where
   pub content-count : subFunctionOf request ≡ 0x01 → contentOf19 codes statuses count request ≡ 0
   unfolding contentOf19 twoBytes
   content-count e = pick-false _ _ (le-ltb 255 (3 + length (faultsOf codes statuses count request)) (omega (arith, sym (ap length (faults-count e)))))
+
+  -- a report of at most 63 codes never passes 255 bytes
+  pub content-fits : count ≤ 63 → contentOf19 codes statuses count request ≡ 0
+  unfolding contentOf19
+  content-fits l = by (eqb (subFunctionOf request) 0x01) refl
+    where
+      by : (b : Bool) → eqb (subFunctionOf request) 0x01 ≡ b → contentOf19 codes statuses count request ≡ 0
+      by true q = content-count (eqb-true _ _ q)
+      by false q =
+          pick-false _ _
+          (le-ltb 255 (3 + length (faultsOf codes statuses count request)) (omega (arith, length-faults (eqb-false _ _ q), count-listed-le statuses (eqb (subFunctionOf request) 0x0A) (maskOf request) count)))
 
 -- ---- a positive answer
 form-or-content : (n x : ℕ) → pick (eqb n 0) x n ≡ 0 → (n ≡ 0) × (x ≡ 0)
@@ -98,6 +109,10 @@ right-lengths n m e =
     let b = either-false _ _ (a .0) in
     let z : n ≡ 0 → ⊥ = eqb-false _ _ (b .0) in
     (omega (arith, z), (ltb-false _ _ (b .1), eqb-true _ _ (not-false _ (a .1))))
+
+pub lengths-right : (n m : ℕ) → 1 ≤ n → n ≤ 255 → m ≡ 255 → wrongLengths n m ≡ false
+unfolding wrongLengths either
+lengths-right n m a b c = rw (ne-eqb n 0 (λ z. omega arith), le-ltb 255 n b, eq-eqb m 255 c)
 
 -- ---- the bytes of a positive answer, by the service that was read
 module _ (codes statuses : List ℕ) (count availability : ℕ) (identifiers lengths bytes : List ℕ) (held : ℕ) (request : List ℕ) {service : ℕ} (read : service ≡ serviceOf request) where

@@ -1,5 +1,6 @@
 -- The crate's laws, which belong to no one function.
 pub mod LawsPlaces
+pub mod LawsMask
 pub mod LawsTrailer
 pub mod LawsFaults
 pub mod LawsDataIdentifiers
@@ -8,3 +9,7 @@ pub mod LawsServer
 pub mod LawsCleared
 pub mod Demand2
 pub mod Demand2Services
+pub mod LawsNegatives
+pub mod LawsDue
+pub mod Demand2Answers
+pub mod Demand2Negatives

@@ -6,5 +6,6 @@ pub mod Faults
 pub mod DataIdentifiers
 pub mod Requests
 pub mod Server
+pub mod Negatives
 pub mod Status
 pub mod Told

@@ -1,0 +1,34 @@
+-- The mask rule, both ways, in the rule's own bits.
+use mathlib.Core.Path.{_≡_, refl, sym, ap}
+use mathlib.Core.Bool.{Bool, true, false, not}
+use mathlib.Core.Logic.{_≢_, _↔_, _⊎_, inl, inr}
+use Prim.Native.Nat.{ℕ}
+use borrow.Author.Tests.{eqb-true, eqb-false, eq-eqb, ne-eqb, not-true}
+use lib.Dec.{eqb}
+use lib.Bits.{bitAnd}
+use Rattle.identifiers.specs.Choice.{either}
+use Rattle.identifiers.proofs.LawsChoice.{both-true, so, left-holds, right-holds}
+use Rattle.server.specs.Mask.{maskKept}
+
+one-or-other : (a b : ℕ) (n : ℕ) → either (eqb n a) (eqb n b) ≡ true → (n ≡ a) ⊎ (n ≡ b)
+unfolding either
+one-or-other a b n e = by (eqb n a) refl e
+  where
+    by : (t : Bool) → eqb n a ≡ t → either t (eqb n b) ≡ true → (n ≡ a) ⊎ (n ≡ b)
+    by true q e = inl (eqb-true _ _ q)
+    by false q e = inr (eqb-true _ _ e)
+
+other-or-one : (a b : ℕ) (n : ℕ) → (n ≡ a) ⊎ (n ≡ b) → true ≡ either (eqb n a) (eqb n b)
+other-or-one a b n (inl e) = left-holds _ (eq-eqb _ _ e)
+other-or-one a b n (inr e) = right-holds _ (eq-eqb _ _ e)
+
+-- "bits 0, 3 and 6 set; bit 2 only with bit 1; bits 4 and 5 together"
+pub mask-rule : (mask : ℕ) → (maskKept mask ≡ true) ↔ ((bitAnd mask 0x49 ≡ 0x49) × ((bitAnd mask 0x06 ≢ 0x04) × ((bitAnd mask 0x30 ≡ 0x00) ⊎ (bitAnd mask 0x30 ≡ 0x30))))
+unfolding maskKept
+mask-rule mask = (
+  λ e.
+      let a = both-true _ _ e in
+      let b = both-true _ _ (a .0) in
+      (eqb-true _ _ (b .0), (eqb-false _ _ (not-true _ (b .1)), one-or-other _ _ _ (a .1))),
+  λ r. sym (so (sym (so (eq-eqb _ _ (r .0)) (sym (ap not (ne-eqb _ _ (r .1 .0)))))) (other-or-one _ _ _ (r .1 .1))),
+)
