@@ -10,6 +10,7 @@ use Rattle.identifiers.specs.Below.{listBelow}
 use Rattle.identifiers.specs.Bytes.{Puts}
 use Rattle.identifiers.specs.Choice.{pick}
 use Rattle.identifiers.specs.Refusals.{numberOf}
+use Rattle.identifiers.proofs.LawsBelow.{list-none, list-suc}
 use Rattle.identifiers.proofs.LawsBytes.{drop-written, keeps-length, puts-whole}
 use Rattle.sheet.specs.Basis.{basisOf}
 use Rattle.sheet.specs.Judge.{judged}
@@ -55,9 +56,8 @@ unfolding lineOf hex
 length-line r = simp length-append (omega (arith, length-decimal 5 (r .position), length-decimal 5 (r .count), length-word (basisOf (r .mask) (r .available))))
 
 length-lines : (f : ℕ → List ℕ) (b n : ℕ) → ((k : ℕ) → length (f k) ≤ b) → length (listBelow f n) ≤ b * n
-unfolding listBelow
-length-lines f b zero h = omega arith
-length-lines f b (suc n) h = omega (arith, length-append (listBelow f n) (f n), length-lines f b n h, h n)
+length-lines f b zero h = omega (arith, ap length (list-none f))
+length-lines f b (suc n) h = omega (arith, ap length (list-suc f n), length-append (listBelow f n) (f n), length-lines f b n h, h n)
 
 length-refusal : (n o : ℕ) → length (refusalLine n o) ≤ 23
 unfolding refusalLine

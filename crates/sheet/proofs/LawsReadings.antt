@@ -11,6 +11,7 @@ use lib.ListN.{length, getD, take, drop, length-append}
 use lib.Seq.{drop-cons, take-add, drop-append-add, getD-take, getD-drop}
 use Rattle.identifiers.specs.Below.{listBelow}
 use Rattle.identifiers.proofs.LawsChoice.{both-true, so}
+use Rattle.identifiers.proofs.LawsBelow.{list-none, list-suc}
 use Rattle.server.specs.Mask.{maskKept}
 use Rattle.sheet.specs.Fields.{pairAt, sizeOf, positionKept, responseKept, fieldJudged}
 use Rattle.sheet.specs.Judge.{fieldOffset, fieldTag, fieldAt, fieldsBegun, judged}
@@ -255,8 +256,7 @@ each-sound (r ∷ rs) (suc k) d (one o h) l = each-sound rs k d h (omega arith)
 
 -- ---- an input as the bytes of its readings
 pub listed : (s : List ℕ) (f : ℕ → Reading) (n : ℕ) → ((k : ℕ) → k < n → Stands s (17 * k) (f k)) → take (17 * n) s ≡ listBelow (λ k. readingBytes (f k)) n
-unfolding listBelow
-listed s f zero h = refl
+listed s f zero h = sym (list-none _)
 listed s f (suc n) h =
     let e : 17 * suc n ≡ 17 * n + 17 = omega arith in
-    rw (e, take-add) (ap (λ (l : List ℕ). l ++ take 17 (drop (17 * n) s)) (listed s f n (λ k l. h k (omega arith))) ∙ ap (λ (l : List ℕ). listBelow (λ k. readingBytes (f k)) n ++ l) (h n (omega arith) .bytes))
+    rw (e, take-add) (ap (λ (l : List ℕ). l ++ take 17 (drop (17 * n) s)) (listed s f n (λ k l. h k (omega arith))) ∙ ap (λ (l : List ℕ). listBelow (λ k. readingBytes (f k)) n ++ l) (h n (omega arith) .bytes) ∙ sym (list-suc _ n))

@@ -10,6 +10,7 @@ use lib.Dec.{ltb}
 use Rattle.identifiers.specs.Below.{listBelow}
 use Rattle.identifiers.specs.Choice.{pick}
 use Rattle.identifiers.proofs.LawsChoice.{pick-true, pick-false, by-test}
+use Rattle.identifiers.proofs.LawsBelow.{list-none, list-suc}
 use Rattle.sheet.specs.Basis.{basisOf}
 use Rattle.sheet.specs.Text.{decimalIn, decimal, digit, hex, header, newline, wordOf, lineOf, refusalLine, digitValue, valueFrom, newlines}
 use Rattle.sheet.specs.declared.basis.Basis.{Basis}
@@ -135,9 +136,9 @@ newlines-refusal number offset =
     simp newlines-append (omega (arith, newlines-decimal 5 number, newlines-decimal 5 offset, refused-word, at-word, one-newline))
 
 pub newlines-lines : (f : ℕ → List ℕ) (n : ℕ) → ((k : ℕ) → newlines (f k) ≡ 1) → newlines (listBelow f n) ≡ n
-unfolding listBelow newlines
-newlines-lines f zero h = refl
-newlines-lines f (suc n) h = omega (arith, newlines-append (listBelow f n) (f n), newlines-lines f n h, h n)
+unfolding newlines
+newlines-lines f zero h = ap newlines (list-none f)
+newlines-lines f (suc n) h = ap newlines (list-suc f n) ∙ omega (arith, newlines-append (listBelow f n) (f n), newlines-lines f n h, h n)
 
 pub newlines-table : (f : ℕ → List ℕ) (n : ℕ) → ((k : ℕ) → newlines (f k) ≡ 1) → newlines (header ++ listBelow f n) ≡ n + 1
 newlines-table f n h = newlines-append header (listBelow f n) ∙ omega (arith, newlines-header, newlines-lines f n h)

@@ -1,12 +1,16 @@
 -- Document 01's example and the empty input, and an input at each edge of the refusals, computed by the definitions that the contracts
 -- cite.
 use mathlib.Core.Path.{_≡_, refl}
+use mathlib.Core.Bool.{true}
+use mathlib.Core.Logic.{inl, inr}
 use mathlib.Core.List.{List, [], _∷_, _++_}
 use Prim.Native.Nat.{ℕ}
+use native.Mathlib.Omega.{arith}
 use Rattle.identifiers.specs.Choice.{both, either, pick}
-use Rattle.identifiers.specs.Below.{listBelow}
+use Rattle.identifiers.proofs.LawsBelow.{list-none, list-suc}
 use Rattle.identifiers.specs.Refusals.{refusal}
 use Rattle.server.specs.Mask.{maskKept}
+use Rattle.server.proofs.LawsMask.{mask-rule}
 use Rattle.sheet.specs.Basis.{basisOf}
 use Rattle.sheet.specs.Fields.{cutShort, sizeOf, wrongForm, positionKept, responseKept, contentKept, fieldJudged}
 use Rattle.sheet.specs.Judge.{fieldOffset, fieldTag, fieldAt, fieldsBegun, orNext, firstRefused, judged}
@@ -39,6 +43,22 @@ pub record Worked : Type 0 where
   -- "refused 22 at 17"
   pub refused : printed (first ++ (0x01 ∷ [])) ≡ 114 ∷ 101 ∷ 102 ∷ 117 ∷ 115 ∷ 101 ∷ 100 ∷ 32 ∷ 50 ∷ 50 ∷ 32 ∷ 97 ∷ 116 ∷ 32 ∷ 49 ∷ 55 ∷ 10 ∷ []
 
+-- both masks of the example keep the mask rule
+kept-7F : maskKept 0x7F ≡ true
+kept-7F = mask-rule 0x7F .1 (refl, ((λ (e : _≡_ {A = ℕ} 6 4). omega arith), inr refl))
+
+kept-4B : maskKept 0x4B ≡ true
+kept-4B = mask-rule 0x4B .1 (refl, ((λ (e : _≡_ {A = ℕ} 2 4). omega arith), inl refl))
+
 pub worked : Worked
-unfolding both either pick listBelow maskKept basisOf cutShort sizeOf wrongForm positionKept responseKept contentKept fieldJudged fieldOffset fieldTag fieldAt fieldsBegun orNext firstRefused judged readingsIn readingOf decimalIn digit hex wordOf lineOf refusalLine printedAs printed
-worked = record { example = refl; empty = refl; stray = refl; between = refl; unfilled = refl; tag = refl; position = refl; refused = refl }
+unfolding both either pick basisOf cutShort sizeOf wrongForm positionKept responseKept contentKept fieldJudged fieldOffset fieldTag fieldAt fieldsBegun orNext firstRefused judged readingsIn readingOf decimalIn digit hex wordOf lineOf refusalLine printedAs printed
+worked = record {
+  example = simp (kept-7F, kept-4B) (rw (list-suc, list-suc, list-none));
+  empty = rw list-none;
+  stray = simp kept-7F;
+  between = refl;
+  unfilled = refl;
+  tag = simp kept-7F;
+  position = refl;
+  refused = simp kept-7F;
+}

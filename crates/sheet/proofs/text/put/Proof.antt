@@ -1,11 +1,11 @@
 -- `put` meets its contract: after i turns the first i bytes of the text stand in the page.
-use mathlib.Core.Path.{refl}
+use mathlib.Core.Path.{refl, sym}
 use Prim.Native.Nat.{_+_, _-_, _≤_}
 use lib.ListN.{length, take}
 use lib.Seq.{take-all}
 use borrow.Author.Needs.{needs}
-use Rattle.identifiers.specs.Bytes.{written, Puts}
-use Rattle.identifiers.proofs.LawsBytes.{copy-more}
+use Rattle.identifiers.specs.Bytes.{Puts}
+use Rattle.identifiers.proofs.LawsBytes.{written-none, copy-more}
 use Rattle.sheet.proofs.text.put.Statement.{statement}
 use Rattle.sheet.proofs.text.put.Tie as tie
 
@@ -16,8 +16,7 @@ abbrev μ-loop : tie.MeasureT-loop
 μ-loop page₀ at text i₀ page i = length text - i
 
 loop-holds : tie.Need-loop-holds Inv-loop μ-loop
-unfolding written
-loop-holds c = (search needs, record { ends = refl; holds = refl })
+loop-holds c = (search needs, record { ends = refl; holds = sym (written-none _ _) })
 
 loop-again : tie.Need-loop-again Inv-loop μ-loop
 loop-again c = (search needs, copy-more _ _ _ (c .before .loop-test .taken) (c .before .before .loop .inv .1))
