@@ -1,88 +1,32 @@
 -- What each request is answered, whole: the record afterwards, the answer and every byte of the response buffer.
 use mathlib.Core.Path.{_≡_, refl, sym, ap, _∙_}
 use mathlib.Core.Bool.{Bool, true, false}
-use mathlib.Core.List.{List, [], _∷_, _++_}
-use Prim.Native.Nat.{ℕ, _+_, _*_, _/_, _%_, _≤_, _<_}
+use mathlib.Core.List.{List, [], _∷_}
+use Prim.Native.Nat.{ℕ, _+_, _*_, _%_, _≤_, _<_}
 use native.Mathlib.Omega.{arith}
 use borrow.Author.Tests.{ne-eqb, le-ltb}
 use lib.Dec.{eqb}
 use lib.Bits.{bitAnd}
 use lib.ListN.{getD, length}
-use Rattle.identifiers.specs.Choice.{pick, both, either}
+use Rattle.identifiers.specs.Choice.{both, either}
 use Rattle.identifiers.specs.Bytes.{written}
 use Rattle.identifiers.proofs.LawsChoice.{pick-true, pick-false, stop, right-decides}
-use Rattle.identifiers.proofs.LawsBelow.{count-all, list-none, list-suc}
 use Rattle.server.specs.Places.{placeOf, heldAmong}
 use Rattle.server.specs.Trailer.{soundRecord}
-use Rattle.server.specs.Faults.{listed, countListed, twoBytes, reportOf, groupHeld, clearedBelow}
-use Rattle.server.specs.DataIdentifiers.{askedCount, askedAt, dataOf, identifierAndData, answerAt, answersOf}
-use Rattle.server.specs.Requests.{serviceOf, subFunctionOf, maskOf, groupOf, hasSubFunction, suppressed}
-use Rattle.server.specs.Server.{faultsOf, contentOf14, contentOf22, negativeOf, positiveOf, positiveFields, statusesAfter, withStatuses, outcomeOf}
+use Rattle.server.specs.Faults.{countListed, reportOf, groupHeld, clearedBelow}
+use Rattle.server.specs.DataIdentifiers.{dataOf, answersOf}
+use Rattle.server.specs.Requests.{serviceOf, groupOf, hasSubFunction, suppressed}
+use Rattle.server.specs.Server.{contentOf14, contentOf22, withStatuses, outcomeOf}
+use Rattle.server.specs.Negatives.{nothingSent}
 use Rattle.server.specs.declared.trailer.TrailerRecord.{TrailerRecord}
 use Rattle.server.specs.declared.serving.Answer.the-variants.{Sent}
 use Rattle.server.proofs.LawsPlaces.{held-at}
 use Rattle.server.proofs.LawsTrailer.{sound-has, length-within}
-use Rattle.server.proofs.LawsFaults.{length-report, count-listed-le}
-use Rattle.server.proofs.LawsDataIdentifiers.{length-data, answer-hit}
-use Rattle.server.proofs.LawsServer.{content-fits, lengths-right, outcome-positive, positive-22}
-use Rattle.server.proofs.LawsNegatives.{known-01, known-02, known-0A, known-00, form-4, form-odd, form-right, content-14, content-19, content-22, content-3E}
-use Rattle.server.proofs.Demand2.{not-cleared, cleared, bytes-14, silent-positive}
-
--- ---- a request that has no negative code and that nothing silences
-record Positive (t : TrailerRecord) (request : List ℕ) (after : TrailerRecord) (n : ℕ) (bytes : List ℕ) : Type 0 where
-  some : 1 ≤ length request
-  most : length request ≤ 255
-  none : negativeOf t request ≡ 0
-  loud : suppressed request ≡ false
-  left : withStatuses t (statusesAfter (t .codes) (t .statuses) (t .count) (t .availability) request) ≡ after
-  counted : length (positiveOf t request) ≡ n
-  sent : positiveOf t request ≡ bytes
-
-positive-answered : (t : TrailerRecord) → soundRecord t ≡ true → (functional : Bool) (response : List ℕ) → length response ≡ 255 → {request : List ℕ} {after : TrailerRecord} {n : ℕ} {bytes : List ℕ} → Positive t request after n bytes
-    → outcomeOf t request functional response ≡ record { after = after; answer = Sent n; response = written response 0 bytes }
-positive-answered t sound functional response room {request} p =
-    rw (← p .left, ← p .counted, ← p .sent) (outcome-positive t request functional response sound (lengths-right _ _ (p .some) (p .most) room) (silent-positive t request functional (p .none) ∙ p .loud) (p .none))
-
--- ---- the bytes
-module _ (t : TrailerRecord) where
-  count-bytes : (mask : ℕ) → t .count ≤ 63 → positiveOf t (0x19 ∷ 0x01 ∷ mask ∷ []) ≡ 0x59 ∷ 0x01 ∷ t .availability ∷ 0x03 ∷ 0x00 ∷ countListed (t .statuses) false mask (t .count) ∷ []
-  unfolding positiveOf positiveFields serviceOf subFunctionOf maskOf faultsOf twoBytes pick
-  count-bytes mask l =
-      let few = count-listed-le (t .statuses) false mask (t .count) in
-      let high : countListed (t .statuses) false mask (t .count) / 256 % 256 ≡ 0x00 = omega arith in
-      let low : countListed (t .statuses) false mask (t .count) % 256 ≡ countListed (t .statuses) false mask (t .count) = omega arith in
-      rw (high, low)
-
-  report-bytes : (mask : ℕ) → positiveOf t (0x19 ∷ 0x02 ∷ mask ∷ []) ≡ 0x59 ∷ 0x02 ∷ t .availability ∷ reportOf (t .codes) (t .statuses) false mask (t .count)
-  unfolding positiveOf positiveFields serviceOf subFunctionOf maskOf faultsOf pick
-  report-bytes mask = refl
-
-  all-bytes : positiveOf t (0x19 ∷ 0x0A ∷ []) ≡ 0x59 ∷ 0x0A ∷ t .availability ∷ reportOf (t .codes) (t .statuses) true 0 (t .count)
-  unfolding positiveOf positiveFields serviceOf subFunctionOf maskOf faultsOf pick
-  all-bytes = refl
-
-  all-counted : countListed (t .statuses) true 0 (t .count) ≡ t .count
-  unfolding countListed listed either
-  all-counted = count-all _ (t .count) (λ i l. refl)
-
-  data-answers : (a b : ℕ) → a < 256 → b < 256 → heldAmong (t .identifiers) (t .held) (a * 256 + b) ≡ true
-      → answersOf (t .identifiers) (t .lengths) (t .bytes) (t .held) (0x22 ∷ a ∷ b ∷ []) ≡ a ∷ b ∷ dataOf (t .lengths) (t .bytes) (placeOf (t .identifiers) (t .held) (a * 256 + b))
-  unfolding answersOf askedCount answerAt askedAt identifierAndData twoBytes
-  data-answers a b l m h =
-      let k = placeOf (t .identifiers) (t .held) (a * 256 + b) in
-      let found = held-at (t .identifiers) (t .held) (a * 256 + b) h in
-      let high : getD (t .identifiers) k 0 / 256 % 256 ≡ a = omega (arith, found .1) in
-      let low : getD (t .identifiers) k 0 % 256 ≡ b = omega (arith, found .1) in
-      list-suc _ 0 ∙ ap (λ (x : List ℕ). x ++ answerAt (t .identifiers) (t .lengths) (t .bytes) (t .held) (0x22 ∷ a ∷ b ∷ []) 0) (list-none _) ∙ sym (answer-hit (t .identifiers) (t .lengths) (t .bytes) (t .held) (a * 256 + b) k refl (found .0))
-      ∙ ap (λ (x : ℕ). x ∷ getD (t .identifiers) k 0 % 256 ∷ dataOf (t .lengths) (t .bytes) k) high ∙ ap (λ (x : ℕ). a ∷ x ∷ dataOf (t .lengths) (t .bytes) k) low
-
-  data-bytes : (request : List ℕ) → serviceOf request ≡ 0x22 → positiveOf t request ≡ 0x62 ∷ answersOf (t .identifiers) (t .lengths) (t .bytes) (t .held) request
-  unfolding positiveOf
-  data-bytes request e = sym (positive-22 _ _ _ _ _ _ _ _ request (sym e) (λ z. omega arith) (λ z. omega arith) refl)
-
-  present-bytes : positiveOf t (0x3E ∷ 0x00 ∷ []) ≡ 0x7E ∷ 0x00 ∷ []
-  unfolding positiveOf positiveFields serviceOf pick
-  present-bytes = refl
+use Rattle.server.proofs.LawsFaults.{length-report}
+use Rattle.server.proofs.LawsDataIdentifiers.{length-data}
+use Rattle.server.proofs.LawsNegatives.{known-01, known-02, known-0A, known-00, form-4, form-odd, content-14, content-22}
+use Rattle.server.proofs.LawsAnswers.{count-bytes, report-bytes, all-bytes, all-counted, data-answers, data-bytes, present-bytes, positive-answered, known-answered, known-silenced}
+use Rattle.server.proofs.Demand2.{not-cleared, cleared, bytes-14}
 
 -- ---- what each request is answered, by a record that keeps its rules, into a buffer of 255 bytes
 module _ (t : TrailerRecord) (sound : soundRecord t ≡ true) (functional : Bool) (response : List ℕ) (room : length response ≡ 255) where
@@ -103,12 +47,9 @@ module _ (t : TrailerRecord) (sound : soundRecord t ≡ true) (functional : Bool
         none = content-14 t q refl (form-4 q refl refl) ∙ pick-true _ _ h;
         loud = refl;
         left = ap (withStatuses t) (cleared t q refl);
-        counted = ap length (bytes-14 t q refl);
+        counted = refl;
         sent = bytes-14 t q refl;
       })
-
-  few : t .count ≤ 63
-  few = sound-has t sound .count
 
   -- "19 01 mask, length 3: `59 01`, availability, `03`, count in two bytes": of at most 63 codes, so the high one is 0
   pub count-answered : (mask : ℕ)
@@ -117,19 +58,7 @@ module _ (t : TrailerRecord) (sound : soundRecord t ≡ true) (functional : Bool
         answer = Sent 6;
         response = written response 0 (0x59 ∷ 0x01 ∷ t .availability ∷ 0x03 ∷ 0x00 ∷ countListed (t .statuses) false mask (t .count) ∷ []);
       }
-  unfolding suppressed serviceOf hasSubFunction both either
-  count-answered mask =
-      let q : List ℕ = 0x19 ∷ 0x01 ∷ mask ∷ [] in
-      positive-answered t sound functional response room
-      (record {
-        some = omega arith;
-        most = omega arith;
-        none = content-19 t q refl (form-right q known-01 refl refl (omega arith) refl) ∙ content-fits _ _ _ q few;
-        loud = refl;
-        left = not-cleared t q refl;
-        counted = ap length (count-bytes t mask few);
-        sent = count-bytes t mask few;
-      })
+  count-answered mask = known-answered t sound functional response room _ known-01 refl refl refl (count-bytes t mask (sound-has t sound .count)) refl
 
   -- "19 02 mask, length 3: `59 02`, availability, then code and status of each match, in order"
   pub report-answered : (mask : ℕ)
@@ -138,19 +67,7 @@ module _ (t : TrailerRecord) (sound : soundRecord t ≡ true) (functional : Bool
         answer = Sent (3 + 4 * countListed (t .statuses) false mask (t .count));
         response = written response 0 (0x59 ∷ 0x02 ∷ t .availability ∷ reportOf (t .codes) (t .statuses) false mask (t .count));
       }
-  unfolding suppressed serviceOf hasSubFunction both either
-  report-answered mask =
-      let q : List ℕ = 0x19 ∷ 0x02 ∷ mask ∷ [] in
-      positive-answered t sound functional response room
-      (record {
-        some = omega arith;
-        most = omega arith;
-        none = content-19 t q refl (form-right q known-02 refl refl (omega arith) refl) ∙ content-fits _ _ _ q few;
-        loud = refl;
-        left = not-cleared t q refl;
-        counted = ap length (report-bytes t mask) ∙ omega (arith, length-report (t .codes) (t .statuses) false mask (t .count));
-        sent = report-bytes t mask;
-      })
+  report-answered mask = known-answered t sound functional response room _ known-02 refl refl refl (report-bytes t mask) (omega (arith, length-report (t .codes) (t .statuses) false mask (t .count)))
 
   -- "19 0A, length 2: `59 0A` and all likewise"
   pub all-answered : outcomeOf t (0x19 ∷ 0x0A ∷ []) functional response ≡ record {
@@ -158,19 +75,7 @@ module _ (t : TrailerRecord) (sound : soundRecord t ≡ true) (functional : Bool
     answer = Sent (3 + 4 * t .count);
     response = written response 0 (0x59 ∷ 0x0A ∷ t .availability ∷ reportOf (t .codes) (t .statuses) true 0 (t .count));
   }
-  unfolding suppressed serviceOf hasSubFunction both either
-  all-answered =
-      let q : List ℕ = 0x19 ∷ 0x0A ∷ [] in
-      positive-answered t sound functional response room
-      (record {
-        some = omega arith;
-        most = omega arith;
-        none = content-19 t q refl (form-right q known-0A refl refl (omega arith) refl) ∙ content-fits _ _ _ q few;
-        loud = refl;
-        left = not-cleared t q refl;
-        counted = ap length (all-bytes t) ∙ omega (arith, length-report (t .codes) (t .statuses) true 0 (t .count), all-counted t);
-        sent = all-bytes t;
-      })
+  all-answered = known-answered t sound functional response room _ known-0A refl refl refl (all-bytes t) (omega (arith, length-report (t .codes) (t .statuses) true 0 (t .count), all-counted t))
 
   -- "22, odd length 3 or more: `62`, then identifier and data for each held one as asked, repeats too": where one is held, in at most 255 bytes
   pub identifiers-answered : (request : List ℕ) → getD request 0 0 ≡ 0x22 → 3 ≤ length request → length request ≤ 255 → length request % 2 ≡ 1
@@ -190,7 +95,7 @@ module _ (t : TrailerRecord) (sound : soundRecord t ≡ true) (functional : Bool
             content-22 t q s (form-odd q s least odd) ∙ pick-false _ _ (ne-eqb (length (answersOf (t .identifiers) (t .lengths) (t .bytes) (t .held) q)) 0 (λ z. omega arith)) ∙ pick-false _ _ (le-ltb 255 _ fits);
         loud = sym (stop _ (sym (right-decides (ap (λ (x : ℕ). eqb x 0x19) s) (sym (ap (λ (x : ℕ). eqb x 0x3E) s)))));
         left = not-cleared t q (ap (λ (x : ℕ). eqb x 0x14) s);
-        counted = ap length (data-bytes t q s) ∙ omega arith;
+        counted = omega arith;
         sent = data-bytes t q s;
       })
 
@@ -211,16 +116,17 @@ module _ (t : TrailerRecord) (sound : soundRecord t ≡ true) (functional : Bool
 
   -- "3E 00, length 2: `7E 00`"
   pub present-answered : outcomeOf t (0x3E ∷ 0x00 ∷ []) functional response ≡ record { after = t; answer = Sent 2; response = written response 0 (0x7E ∷ 0x00 ∷ []) }
-  unfolding suppressed serviceOf hasSubFunction both either
-  present-answered =
-      let q : List ℕ = 0x3E ∷ 0x00 ∷ [] in
-      positive-answered t sound functional response room
-      (record {
-        some = omega arith;
-        most = omega arith;
-        none = content-3E t q refl (form-right q known-00 refl refl (omega arith) refl);
-        loud = refl;
-        left = not-cleared t q refl;
-        counted = ap length (present-bytes t);
-        sent = present-bytes t;
-      })
+  present-answered = known-answered t sound functional response room _ known-00 refl refl refl (present-bytes t) refl
+
+  -- "Bit 7 of a sub-function (19, 3E) silences a positive answer": 19 81, 19 82, 19 8A and 3E 80
+  pub count-silenced : (mask : ℕ) → outcomeOf t (0x19 ∷ 0x81 ∷ mask ∷ []) functional response ≡ nothingSent t response
+  count-silenced mask = known-silenced t sound functional response room _ known-01 refl refl refl
+
+  pub report-silenced : (mask : ℕ) → outcomeOf t (0x19 ∷ 0x82 ∷ mask ∷ []) functional response ≡ nothingSent t response
+  report-silenced mask = known-silenced t sound functional response room _ known-02 refl refl refl
+
+  pub all-silenced : outcomeOf t (0x19 ∷ 0x8A ∷ []) functional response ≡ nothingSent t response
+  all-silenced = known-silenced t sound functional response room _ known-0A refl refl refl
+
+  pub present-silenced : outcomeOf t (0x3E ∷ 0x80 ∷ []) functional response ≡ nothingSent t response
+  present-silenced = known-silenced t sound functional response room _ known-00 refl refl refl

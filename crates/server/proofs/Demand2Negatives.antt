@@ -69,6 +69,7 @@ module _ (t : TrailerRecord) (q : List ℕ) where
   pub negative-14 : soundRecord t ≡ true → (negativeOf t q ≡ 0x14) ↔ TooLong t q
   negative-14 h = (λ e. why-14 h (due-at t q e), due-14 t q)
 
+  -- 0 where the answer is positive, and no other code than these
   pub negative-others : (negativeOf t q ≡ 0) ⊎ ((negativeOf t q ≡ 0x11) ⊎ ((negativeOf t q ≡ 0x12) ⊎ ((negativeOf t q ≡ 0x13) ⊎ ((negativeOf t q ≡ 0x14) ⊎ (negativeOf t q ≡ 0x31)))))
   negative-others = one-of (due t q)
 
@@ -105,6 +106,7 @@ module _ (t : TrailerRecord) (sound : soundRecord t ≡ true) (q : List ℕ) (so
   negative-functional code (inl e) = (meant true code, sent true code (λ z. omega arith) (ap quietCode e))
   negative-functional code (inr e) = (meant true code, sent true code (λ z. omega arith) (ap quietCode e))
 
+  -- and on these it is
   pub negative-quiet : (code : ℕ) → (code ≡ 0x11) ⊎ ((code ≡ 0x12) ⊎ (code ≡ 0x31)) → negativeOf t q ≡ code → outcomeOf t q true response ≡ nothingSent t response
   unfolding both quietCode either
   negative-quiet code c e = ⊎-elim (λ p. quiet _ (e ∙ p) refl (λ z. omega arith)) (⊎-elim (λ p. quiet _ (e ∙ p) refl (λ z. omega arith)) (λ p. quiet _ (e ∙ p) refl (λ z. omega arith))) c
@@ -127,3 +129,15 @@ module _ (t : TrailerRecord) (sound : soundRecord t ≡ true) (q : List ℕ) (so
 
   pub answers-14 : (outcomeOf t q false response ≡ negativeSent t q response 0x14) ↔ TooLong t q
   answers-14 = Iff·trans (negative-answered 0x14 (λ z. omega arith)) (negative-14 t q sound)
+
+  -- ---- and which functional ones
+  pub functional-13 : (outcomeOf t q true response ≡ negativeSent t q response 0x13) ↔ (TooShort q ⊎ WrongLength q)
+  functional-13 = Iff·trans (negative-functional 0x13 (inl refl)) (negative-13 t q)
+
+  pub functional-14 : (outcomeOf t q true response ≡ negativeSent t q response 0x14) ↔ TooLong t q
+  functional-14 = Iff·trans (negative-functional 0x14 (inr refl)) (negative-14 t q sound)
+
+  pub functional-quiet : UnknownService q ⊎ (UnknownSubFunction q ⊎ NotHeld t q) → outcomeOf t q true response ≡ nothingSent t response
+  functional-quiet (inl x) = negative-quiet 0x11 (inl refl) (due-11 t q x)
+  functional-quiet (inr (inl x)) = negative-quiet 0x12 (inr (inl refl)) (due-12 t q x)
+  functional-quiet (inr (inr x)) = negative-quiet 0x31 (inr (inr refl)) (due-31 t q x)

@@ -11,5 +11,6 @@ pub mod Demand2
 pub mod Demand2Services
 pub mod LawsNegatives
 pub mod LawsDue
+pub mod LawsAnswers
 pub mod Demand2Answers
 pub mod Demand2Negatives
