@@ -117,6 +117,7 @@ int main(void)
             told(&tester, theirs, stamp + 10);
         }
     }
+    /* the second is refused, CASTANHIU_LATE, and closes the reception */
     printf("a first frame, and its next one 151 ms later:\n");
     told(&tester, castanhiu_cut(second, length, 0, two.node.own, tester.node.own, UNIT), stamp);
     told(&tester, castanhiu_cut(second, length, 1, two.node.own, tester.node.own, UNIT), stamp + 151);

@@ -1,9 +1,11 @@
 /* Castanhiu: trailer diagnostics on the bus between towing and towed vehicle. Link libcastanhiu.a (x86-64 Linux).
  *
- * Every function answers whatever it is handed: a refusal is a number of the table in document 01, 0 is none, and a refused
- * answer has all its other numbers 0, but for a node, and for the control that refusal 11 says is due. A slice is a pointer
+ * Every function answers whatever it is handed: a refusal is one of the numbers below, 0 is none, and a refused answer has
+ * all its other numbers 0, but for a node, and for the control that refusal 11 says is due and to whom. A slice is a pointer
  * and then its length; the pointer leads to that many bytes and is not null. What one call writes may not overlap with what
- * else it is lent. No function keeps memory, allocates, or calls out. Positions: 0 the towing vehicle, 1 to 5 the trailers. */
+ * else it is lent. No function keeps memory, allocates, or calls out. Positions: 0 the towing vehicle, 1 to 5 the trailers.
+ *
+ * The rules stand in docs/RULES.md, numbered. */
 #ifndef CASTANHIU_H
 #define CASTANHIU_H
 
@@ -18,6 +20,34 @@ enum { CASTANHIU_VALUE, CASTANHIU_RESERVED, CASTANHIU_ERROR, CASTANHIU_NOT_AVAIL
 enum { CASTANHIU_NOTHING = 0, CASTANHIU_SINGLE = 1, CASTANHIU_TRAIN = 2 };                           /* handed out */
 enum { CASTANHIU_NO_CONTROL = 0, CASTANHIU_CONTINUE = 1, CASTANHIU_OVERFLOW = 2 };                   /* control due */
 
+/* The refusals: docs/RULES.md, section 9, says when each is given, by whom, and what it leaves. */
+enum {
+    CASTANHIU_RULES_BROKEN = 1,          /* node, record, own position, side or buffer against its rules */
+    CASTANHIU_IDENTIFIER_TOO_LARGE = 2,  /* 2^29 or more */
+    CASTANHIU_TOO_MANY_DATA_BYTES = 3,   /* more than 8 */
+    CASTANHIU_RESERVED_BIT_SET = 4,      /* R set */
+    CASTANHIU_NOT_DIAGNOSTIC = 5,        /* by DP or PF */
+    CASTANHIU_NO_OTHER_VEHICLE = 6,      /* SA no vehicle's, or the own */
+    CASTANHIU_OTHER_DESTINATION = 7,     /* PS not the own address (physical) or FF (functional) */
+    CASTANHIU_OTHER_UNIT = 8,            /* no unit byte, or another unit */
+    CASTANHIU_MALFORMED = 9,             /* second byte or lengths wrong, or functional and not single */
+    CASTANHIU_FLOW_CONTROL = 10,         /* physical flow control: not for a receiver */
+    CASTANHIU_OVER_LONG = 11,            /* a first frame of more than 255 bytes; overflow control is due */
+    CASTANHIU_NOTHING_OPEN = 12,         /* a consecutive frame, nothing open */
+    CASTANHIU_WRONG_NUMBER = 13,         /* a consecutive frame with another number */
+    CASTANHIU_LATE = 14,                 /* a consecutive frame after more than 150 ms */
+    CASTANHIU_NO_ADDRESS = 15,           /* no address to take */
+    CASTANHIU_NOT_WRITABLE = 16,         /* no such identifier, frame or flow control to write */
+    CASTANHIU_WRONG_LENGTH = 17,         /* request of 0 or over 255 bytes, or response buffer not 255 */
+    CASTANHIU_CODE_NOT_HELD = 18,        /* no such fault code in the record */
+    CASTANHIU_STATUS_OUTSIDE_MASK = 19,  /* a status with a bit outside the availability mask */
+    CASTANHIU_NO_READING = 20,           /* kind over 7, or a raw number past its bytes or bits */
+    CASTANHIU_INPUT_TOO_LONG = 21,       /* a sheet of more than 65,535 bytes */
+    CASTANHIU_FIELD_CUT_SHORT = 22,      /* a sheet's field cut short */
+    CASTANHIU_WRONG_TAG_OR_LENGTH = 23,  /* a sheet's field with another tag or length */
+    CASTANHIU_WRONG_CONTENT = 24         /* a sheet's field with wrong content */
+};
+
 typedef struct { uint8_t priority, data_page, format, specific, source; } castanhiu_identifier;      /* P, DP, PF, PS, SA */
 typedef struct { uint8_t refusal; castanhiu_identifier fields; } castanhiu_identifier_answer;
 typedef struct { uint8_t refusal; uint32_t number; } castanhiu_number_answer;
@@ -31,7 +61,9 @@ typedef struct { uint8_t length, taken; uint32_t last; } castanhiu_reception;
 typedef struct { uint8_t own, unit; castanhiu_reception receptions[6]; } castanhiu_node;
 typedef struct { castanhiu_node node; uint8_t refusal; } castanhiu_node_answer;
 
-/* The message lies in the frame's data (a single frame) or in the buffer (a train), `length` bytes from `start` on. */
+/* The message lies in the frame's data (a single frame) or in the buffer (a train), `length` bytes from `start` on.
+ * `from` is the position of the frame's vehicle, for every frame that is not refused and for refusal 11: there control 2,
+ * overflow, is due to that vehicle. For every other refusal it is 0. */
 typedef struct {
     uint8_t refusal, handed_out, from;
     bool functional;
@@ -121,8 +153,8 @@ castanhiu_receive_answer castanhiu_receive(castanhiu_node node, uint8_t *buffer,
  * Memory: none. */
 castanhiu_frame castanhiu_flow_control(uint8_t control, uint8_t from, uint8_t to, uint8_t unit);
 
-/* How many frames a message has.
- * Refuses: 0 for a length of 0 or over 255.
+/* How many frames a message has; 0 for one that can't be cut, of 0 or over 255 bytes.
+ * Refuses: nothing.
  * Memory: none. */
 size_t castanhiu_frame_count(size_t length);
 
