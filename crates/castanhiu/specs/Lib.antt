@@ -1,2 +1,3 @@
 -- The root of the crate's definitions.
 pub mod Numbers
+pub mod Hosts

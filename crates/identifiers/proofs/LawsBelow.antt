@@ -1,6 +1,6 @@
 -- Laws of what is said of every index below a number: none yet, one more, and what the whole says of each. One loop law for all loops.
 use mathlib.Core.Path.{_≡_, refl, sym, ap, _∙_}
-use mathlib.Core.Bool.{Bool, true, false, _&&_}
+use mathlib.Core.Bool.{Bool, true, false, false≢true, _&&_}
 use mathlib.Core.List.{List, [], _++_, append-nil}
 use mathlib.Core.Logic.{⊎-elim}
 use Prim.Native.Nat.{ℕ, zero, suc, _+_, _<_, _≤_}
@@ -30,6 +30,16 @@ unfolding allBelow both
 all-fails p i zero h e = absurd (omega arith)
 all-fails p i (suc n) h e =
     ⊎-elim (λ (q : i ≡ n). rw (ap p (sym q) ∙ e) (both-false (allBelow p n))) (λ (q : i < n). rw (all-fails p i n q e)) (eq-or-lt-of-le (omega arith))
+
+-- where not all hold, one does not
+pub all-not : (p : ℕ → Bool) (n : ℕ) → allBelow p n ≡ false → (i : ℕ) × ((i < n) × (p i ≡ false))
+unfolding allBelow both
+all-not p zero h = absurd (false≢true (sym h))
+all-not p (suc n) h = by (allBelow p n) refl h (all-not p n)
+  where
+    by : (b : Bool) → allBelow p n ≡ b → both b (p n) ≡ false → (allBelow p n ≡ false → (i : ℕ) × ((i < n) × (p i ≡ false))) → (i : ℕ) × ((i < suc n) × (p i ≡ false))
+    by true e g x = (n, (omega arith, g))
+    by false e g x = let y = x e in (y .0, (omega (arith, y .1 .0), y .1 .1))
 
 pub all-at : (p : ℕ → Bool) (i n : ℕ) → allBelow p n ≡ true → i < n → p i ≡ true
 unfolding allBelow

@@ -6,15 +6,17 @@ use native.Mathlib.Nat.{mod-eq-of-lt}
 use native.Mathlib.Omega.{arith}
 use lib.Arith.{mod-mul}
 use lib.Dec.{leb, ltb, eqb, lit<}
-use borrow.Author.Tests.{leb-false, eqb-false, ltb-false, lt-leb, le-leb, le-ltb, lt-ltb, eq-eqb, ne-eqb}
+use borrow.Author.Tests.{leb-true, leb-false, eqb-true, eqb-false, ltb-true, ltb-false, lt-leb, le-leb, le-ltb, lt-ltb, eq-eqb, ne-eqb}
 use Rattle.identifiers.specs.Choice.{pick, either}
 use Rattle.identifiers.specs.Refusals.{refusal}
-use Rattle.identifiers.specs.Identifiers.{formula, reservedBit, fieldsOf, frameRead, readOf, writtenAs}
+use Rattle.identifiers.specs.Identifiers.{formula, reservedBit, fieldsOf, frameRead, readOf, writtenAs, targetOf}
 use Rattle.identifiers.specs.declared.refusal.Refusal.{Refusal}
 use Rattle.identifiers.specs.declared.identifier.Identifier.{Identifier}
+use Rattle.identifiers.specs.declared.identifier.IdentifierRead.{IdentifierRead}
 use Rattle.identifiers.specs.declared.identifier.IdentifierRead.the-variants as read
 use Rattle.identifiers.specs.declared.identifier.IdentifierWritten.the-variants as written
-use Rattle.identifiers.proofs.LawsChoice.{pick-true, pick-false, was-passed, right-decides, either-false}
+use Rattle.identifiers.specs.declared.identifier.Target.the-variants.{Destination, GroupExtension}
+use Rattle.identifiers.proofs.LawsChoice.{pick-true, pick-false, by-test, was-passed, right-decides, either-false}
 
 -- ---- the checks of a frame, one law a rung
 pub frame-2 : (n count : ℕ) → 2 ^ 29 ≤ n → frameRead n count ≡ read.Refused (refusal 2)
@@ -32,6 +34,21 @@ frame-4 n count h l r = pick-false _ _ (lt-leb _ _ h) ∙ pick-false _ _ (le-ltb
 pub frame-fields : (n count : ℕ) → n < 2 ^ 29 → count ≤ 8 → (reservedBit n ≡ 1 → ⊥) → frameRead n count ≡ read.Fields (fieldsOf n)
 unfolding frameRead
 frame-fields n count h l r = pick-false _ _ (lt-leb _ _ h) ∙ pick-false _ _ (le-ltb _ _ l) ∙ pick-false _ _ (ne-eqb _ _ r)
+
+-- a frame's number is read in one of these four ways
+pub data Reads (n count : ℕ) : IdentifierRead → Type 0 where
+  reads-2 : 2 ^ 29 ≤ n → Reads n count (read.Refused (refusal 2))
+  reads-3 : n < 2 ^ 29 → 8 < count → Reads n count (read.Refused (refusal 3))
+  reads-4 : n < 2 ^ 29 → count ≤ 8 → reservedBit n ≡ 1 → Reads n count (read.Refused (refusal 4))
+  reads-fields : n < 2 ^ 29 → count ≤ 8 → (reservedBit n ≡ 1 → ⊥) → Reads n count (read.Fields (fieldsOf n))
+
+pub frame-reads : (n count : ℕ) → Reads n count (frameRead n count)
+unfolding frameRead
+frame-reads n count =
+    by-test {P = Reads n count} _ (λ a. record { holds = reads-2 (leb-true _ _ a) })
+    (λ a. by-test _ (λ b. record { holds = reads-3 (leb-false _ _ a) (ltb-true _ _ b) })
+    (λ b. by-test _ (λ c. record { holds = reads-4 (leb-false _ _ a) (ltb-false _ _ b) (eqb-true _ _ c) })
+    (λ c. record { holds = reads-fields (leb-false _ _ a) (ltb-false _ _ b) (eqb-false _ _ c) }))) .holds
 
 -- what a frame that was read has
 pub record Passes (n count : ℕ) (i : Identifier) : Type 0 where
@@ -82,10 +99,14 @@ pub fields-widths : (n : ℕ) → Widths (fieldsOf n)
 unfolding fieldsOf
 fields-widths n = record { priority = omega arith; «data_page» = omega arith; format = omega arith; specific = omega arith; source = omega arith }
 
+-- the fields on the wire
+pub fields-are : (n : ℕ) → fieldsOf n ≡ record { priority = n / 2 ^ 26 % 2 ^ 3; «data_page» = n / 2 ^ 24 % 2 ^ 1; format = n / 2 ^ 16 % 2 ^ 8; specific = n / 2 ^ 8 % 2 ^ 8; source = n % 2 ^ 8 }
+unfolding fieldsOf
+fields-are n = refl
+
 -- SA is the number's last eight bits
 pub source-is : (n : ℕ) → fieldsOf n .source ≡ n % 2 ^ 8
-unfolding fieldsOf
-source-is n = refl
+source-is n = ap (λ (i : Identifier). i .source) (fields-are n)
 
 -- the fields and R of a number that the formula gives
 module _ (i : Identifier) (R : ℕ) (w : Widths i) (r : R < 2 ^ 1) where
@@ -168,3 +189,17 @@ read-written n count i e =
     let w = fields-widths n in
     let back : formula 0 (fieldsOf n) ≡ n = rw (no-bit n (p .reserved)) at (formula-of-fields n (p .range)) in
     rw (sym (p .fields)) (write-number (fieldsOf n) (omega (arith, w .priority)) (omega (arith, w .«data_page»)) ∙ ap written.Number back)
+
+-- ---- "PF below 240: PS is a destination. Otherwise a group extension."
+pub target-destination : (i : Identifier) → i .format < 240 → targetOf i ≡ Destination (i .specific)
+unfolding targetOf
+target-destination i h = pick-true _ _ (lt-ltb _ _ h)
+
+pub target-group : (i : Identifier) → 240 ≤ i .format → targetOf i ≡ GroupExtension (i .specific)
+unfolding targetOf
+target-group i h = pick-false _ _ (le-ltb _ _ h)
+
+-- PF and PS alone decide
+pub target-same : (i j : Identifier) → i .format ≡ j .format → i .specific ≡ j .specific → targetOf i ≡ targetOf j
+unfolding targetOf
+target-same i j f s = rw (f, s)

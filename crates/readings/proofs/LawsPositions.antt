@@ -128,6 +128,10 @@ pub trailer-back : (p : Position) → 1 ≤ placeOf p → trailerAt (placeOf p) 
 unfolding trailerAt
 trailer-back p h = pick-false _ _ (ne-eqb (placeOf p) 0 (λ (e : placeOf p ≡ 0). omega arith)) ∙ place-back p
 
+pub trailer-none : (n : ℕ) → 1 ≤ n → trailerAt n ≡ NoVehicle → 5 < n
+unfolding trailerAt
+trailer-none n h e = position-none n (sym (pick-false _ _ (ne-eqb n 0 (λ (z : n ≡ 0). omega arith))) ∙ e)
+
 -- ---- neighbours: one place further on, one place before
 pub successor-place : (p q : Position) → successorOf p ≡ At q → placeOf q ≡ placeOf p + 1
 unfolding successorOf

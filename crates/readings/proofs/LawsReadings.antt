@@ -6,7 +6,7 @@ use native.Mathlib.Omega.{arith}
 use borrow.Author.Tests.{le-ltb, le-leb, lt-leb, eq-eqb, ne-eqb, ltb-false}
 use lib.Dec.{T, leb, ltb, eqb, lit<, lit≤}
 use lib.IntN.{ℤ, pos, natAbs, subℕ}
-use lib.Ieee.{Float}
+use lib.Ieee.{Float, binary32, toBits}
 use lib.ListN.{getD, List·getD-eq-default}
 use Rattle.identifiers.specs.Choice.{pick}
 use Rattle.identifiers.specs.Refusals.{refusal}
@@ -128,3 +128,8 @@ readings-exact kind raw m e =
 pub two-bits-20 : (raw : ℕ) → 4 ≤ raw → twoBitsOf raw ≡ two.Refused (refusal 20)
 unfolding twoBitsOf
 two-bits-20 raw h = List·getD-eq-default (two.Read bits.No ∷ two.Read bits.Yes ∷ two.Read bits.Error ∷ two.Read bits.NotAvailable ∷ []) (two.Refused (refusal 20)) h
+
+-- ---- the 0 that stands for no value is +0, four bytes of 0; the sign of a value that is 0 is that of its whole number, by `readings-exact`
+pub zero-bits : toBits binary32 +0 ≡ 0
+unfolding toBits
+zero-bits = refl

@@ -1,15 +1,20 @@
 -- The route in laws: each refusal, what passes, what is kept and sent on; a frame is never sent back, and priority is ignored.
-use mathlib.Core.Path.{_≡_, refl, ap, _∙_}
+use mathlib.Core.Path.{_≡_, refl, sym, ap, _∙_}
 use mathlib.Core.Bool.{Bool, true, false}
-use Prim.Native.Nat.{ℕ}
+use mathlib.Core.Logic.{_↔_}
+use Prim.Native.Nat.{ℕ, _/_, _%_, _^_, _≤_, _<_}
+use native.Mathlib.Decide.{decLt}
 use native.Mathlib.Omega.{arith}
-use Rattle.identifiers.specs.Choice.{pick}
+use borrow.Author.Tests.{ltb-true, eqb-true, lt-ltb, eq-eqb}
+use lib.Dec.{eqb}
+use Rattle.identifiers.specs.Choice.{pick, either}
 use Rattle.identifiers.specs.Refusals.{refusal}
-use Rattle.identifiers.specs.Identifiers.{frameRead, targetOf}
+use Rattle.identifiers.specs.Identifiers.{fieldsOf, frameRead, targetOf}
 use Rattle.identifiers.specs.declared.refusal.Refusal.{Refusal}
 use Rattle.identifiers.specs.declared.identifier.Identifier.{Identifier}
 use Rattle.identifiers.specs.declared.identifier.IdentifierRead.the-variants as read
-use Rattle.identifiers.proofs.LawsChoice.{pick-true, pick-false}
+use Rattle.identifiers.proofs.LawsChoice.{pick-true, pick-false, so, both-true, left-holds, right-holds}
+use Rattle.identifiers.proofs.LawsIdentifiers.{fields-are, target-destination, target-group, target-same}
 use Rattle.readings.specs.declared.position.Position.{Position}
 use Rattle.readings.specs.declared.position.Vehicle.{Vehicle}
 use Rattle.readings.specs.declared.position.Vehicle.the-variants.{At, NoVehicle}
@@ -18,8 +23,8 @@ use Rattle.readings.specs.declared.routing.Side.the-variants.{Predecesso
 use Rattle.readings.specs.declared.routing.Onward.{Onward}
 use Rattle.readings.specs.declared.routing.Onward.the-variants.{ToPredecessor, ToSuccessor}
 use Rattle.readings.specs.declared.routing.Routed.the-variants.{Passed, Neither, Refused}
-use Rattle.readings.specs.Positions.{placeOf, vehicleOf}
-use Rattle.readings.specs.Routes.{ownAt, comes, onwardOf, passage, routedFrom, routedBy, routedRead, routedAt, routeOf}
+use Rattle.readings.specs.Positions.{placeOf, addressOf, global, vehicleOf}
+use Rattle.readings.specs.Routes.{ownAt, comes, named, onwardOf, passage, routedFrom, routedBy, routedRead, routedAt, routeOf, Comes, Keeps, to-own, to-all, to-group}
 
 -- ---- the route of a frame whose fields were read
 module _ (side : Side) (own : Position) (successor : Bool) (i : Identifier) where
@@ -35,6 +40,47 @@ module _ (side : Side) (own : Position) (successor : Bool) (i : Identifier) wher
       → routedBy side own successor i ≡ Passed (passage side own successor i)
   unfolding routedBy routedFrom
   from-right p h k = ap (routedFrom side own successor i) h ∙ pick-true _ _ k
+
+-- ---- from where a frame comes rightly, and which one is kept, in the wire's numbers
+pub comes-exactly : (side : Side) (own : ℕ) (successor : Bool) (source : ℕ) → comes side own successor source ≡ true ↔ Comes side own successor source
+unfolding comes
+comes-exactly Predecessor own successor source = (λ e. ltb-true _ _ e, λ h. lt-ltb _ _ h)
+comes-exactly Successor own successor source = (
+  λ e. let b = both-true _ _ e in (b .0, ltb-true _ _ (b .1)),
+  λ (h : (successor ≡ true) × (own < source)). sym (so (h .0) (sym (lt-ltb _ _ (h .1)))),
+)
+
+module _ (own : Position) (n : ℕ) where
+  abbrev PF : ℕ
+  PF = n / 2 ^ 16 % 2 ^ 8
+
+  abbrev PS : ℕ
+  PS = n / 2 ^ 8 % 2 ^ 8
+
+  to-destination : PF < 240 → named (addressOf own) (targetOf (fieldsOf n)) ≡ either (eqb PS (addressOf own)) (eqb PS global)
+  unfolding named
+  to-destination h = rw (fields-are n) (ap (named (addressOf own)) (target-destination _ h))
+
+  to-a-group : 240 ≤ PF → named (addressOf own) (targetOf (fieldsOf n)) ≡ true
+  unfolding named
+  to-a-group h = rw (fields-are n) (ap (named (addressOf own)) (target-group _ h))
+
+  which : (mine all : Bool) → PF < 240 → eqb PS (addressOf own) ≡ mine → eqb PS global ≡ all → either mine all ≡ true → Keeps own n
+  unfolding either
+  which true all h a b e = to-own h (eqb-true _ _ a)
+  which false all h a b e = to-all h (eqb-true _ _ (b ∙ e))
+
+  kept-so : Keeps own n → named (addressOf own) (targetOf (fieldsOf n)) ≡ true
+  kept-so (to-own h e) = to-destination h ∙ sym (left-holds _ (eq-eqb _ _ e))
+  kept-so (to-all h e) = to-destination h ∙ sym (right-holds _ (eq-eqb _ _ e))
+  kept-so (to-group h) = to-a-group h
+
+  keeps : Dec (PF < 240) → named (addressOf own) (targetOf (fieldsOf n)) ≡ true → Keeps own n
+  keeps (yes h) e = which _ _ h refl refl (sym (to-destination h) ∙ e)
+  keeps (no h) e = to-group (omega arith)
+
+  pub kept-exactly : named (addressOf own) (targetOf (fieldsOf n)) ≡ true ↔ Keeps own n
+  kept-exactly = (keeps (decLt PF 240), kept-so)
 
 -- ---- one law a rung: 1, then what the frame's reader refuses, else the route
 module _ (side : Side) (own : ℕ) (successor : Bool) (number count : ℕ) where
@@ -67,9 +113,9 @@ abbrev pub withPriority : ℕ → Identifier → Identifier
 withPriority p i = record { priority = p; «data_page» = i .«data_page»; format = i .format; specific = i .specific; source = i .source }
 
 pub priority-ignored : (side : Side) (own : Position) (successor : Bool) (i : Identifier) (p : ℕ) → routedBy side own successor (withPriority p i) ≡ routedBy side own successor i
-unfolding routedBy routedFrom passage targetOf
+unfolding routedBy routedFrom passage
 priority-ignored side own successor i p = go (vehicleOf (i .source))
   where
     go : (v : Vehicle) → routedFrom side own successor (withPriority p i) v ≡ routedFrom side own successor i v
-    go (At q) = refl
+    go (At q) = rw (target-same (withPriority p i) i refl refl)
     go NoVehicle = refl

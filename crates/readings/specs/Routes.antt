@@ -1,6 +1,7 @@
 -- The route of a frame: whether it is kept, and to which side it is sent on (document 01, "Identifier, vehicle, route").
+use mathlib.Core.Path.{_≡_}
 use mathlib.Core.Bool.{Bool, true, false}
-use Prim.Native.Nat.{ℕ}
+use Prim.Native.Nat.{ℕ, _/_, _%_, _^_, _≤_, _<_}
 use lib.Dec.{ltb, eqb}
 use Rattle.identifiers.specs.Choice.{pick, both, either}
 use Rattle.identifiers.specs.Refusals.{refusal, numberOf}
@@ -77,3 +78,15 @@ unfoldable pub routedTold : Routed → RoutedTold
 routedTold (Passed p) = record { refusal = 0; kept = p .kept; onward = onwardNumber (p .onward) }
 routedTold Neither = record { refusal = 0; kept = false; onward = 0 }
 routedTold (Refused why) = record { refusal = numberOf why; kept = false; onward = 0 }
+
+-- ---- the same in the wire's numbers, for a reader
+-- "from the predecessor, SA's position must be lower than the own; from the successor", which must exist, "higher"
+abbrev pub Comes : Side → ℕ → Bool → ℕ → Type 0
+Comes Predecessor own successor source = source < own
+Comes Successor own successor source = (successor ≡ true) × (own < source)
+
+-- "It is kept when the destination is the own address or FF, or PF is 240 or more": of an identifier's number
+pub data Keeps (own : Position) (n : ℕ) : Type 0 where
+  to-own : n / 2 ^ 16 % 2 ^ 8 < 240 → n / 2 ^ 8 % 2 ^ 8 ≡ addressOf own → Keeps own n
+  to-all : n / 2 ^ 16 % 2 ^ 8 < 240 → n / 2 ^ 8 % 2 ^ 8 ≡ 0xFF → Keeps own n
+  to-group : 240 ≤ n / 2 ^ 16 % 2 ^ 8 → Keeps own n

@@ -5,9 +5,12 @@ pub mod LawsPieces
 pub mod LawsOnWire
 pub mod LawsCutter
 pub mod LawsFrames
+pub mod LawsRungs
+pub mod LawsBroken
 pub mod LawsFollowed
 pub mod LawsSteps
 pub mod LawsGiven
 pub mod LawsOthers
 pub mod LawsReceived
+pub mod LawsShown
 pub mod OneFrame

@@ -1,174 +1,166 @@
--- One frame: what each outcome changes, that every refusal leaves the buffer and all but 11, 13 and 14 the node, and that the shown message has the told length.
+-- One frame: what each outcome changes, and that every refusal leaves the buffer, and the node too but for the reception that 11, 13 and 14 close.
 use mathlib.Core.Path.{_≡_, refl, sym, ap, subst, _∙_}
-use mathlib.Core.Bool.{Bool, true, false}
+use mathlib.Core.Bool.{Bool, true, false, false≢true}
 use mathlib.Core.List.{List}
-use Prim.Native.Nat.{ℕ, _+_, _*_, _≤_}
+use mathlib.Core.Logic.{_≢_}
+use Prim.Native.Nat.{ℕ, _%_, _^_, _≤_}
 use native.Mathlib.Omega.{arith}
 use borrow.Author.Tests.{ne-eqb}
-use lib.Dec.{ltb}
-use lib.ListN.{length, take, drop, length-drop}
-use lib.Seq.{length-take-le, set-getD}
+use lib.ListN.{length}
 use Rattle.identifiers.specs.Choice.{pick, either}
-use Rattle.identifiers.specs.Bytes.{written}
 use Rattle.identifiers.specs.Refusals.{refusal, numberOf}
 use Rattle.identifiers.specs.declared.refusal.Refusal.{Refusal}
 use Rattle.identifiers.proofs.LawsChoice.{Holds, by-test, pick-true, pick-false, right-decides}
-use Rattle.readings.specs.Positions.{placeOf}
-use Rattle.readings.proofs.LawsPositions.{place-below}
+use Rattle.identifiers.proofs.LawsBytes.{written-none}
+use Rattle.identifiers.proofs.LawsIdentifiers.{source-is}
+use Rattle.readings.specs.Positions.{placeOf, addressOf, vehicleOf}
 use Rattle.readings.specs.declared.position.Position.{Position}
 use Rattle.readings.specs.declared.position.Vehicle.{Vehicle}
 use Rattle.readings.specs.declared.position.Vehicle.the-variants.{At, NoVehicle}
+use Rattle.readings.proofs.LawsPositions.{address-back}
 use Rattle.receiver.specs.declared.reception.Reception.{Reception}
 use Rattle.receiver.specs.declared.node.Node.{Node}
 use Rattle.receiver.specs.declared.frame.Judged.{Judged}
 use Rattle.receiver.specs.declared.frame.Judged.the-variants as judged
 use Rattle.receiver.specs.declared.step.Step.{Step}
 use Rattle.receiver.specs.declared.step.Outcome.{Outcome}
-use Rattle.receiver.specs.declared.step.Outcome.the-variants.{Refused, OverLong, Single}
+use Rattle.receiver.specs.declared.step.Outcome.the-variants.{Refused, OverLong, Opened, Taken, Single, Train}
 use Rattle.receiver.specs.Receptions.{closed}
 use Rattle.receiver.specs.Nodes.{receptionAt, withReception}
 use Rattle.receiver.specs.Frames.{judgedOf}
-use Rattle.receiver.specs.Steps.{regionAt, kept, shut, opened, leftOf, takenStep, followed, stepOf, judgedPlace, stepBy, ownOf, receivedBy, receivedAt, receivedOf, writtenBy, bufferAt, bufferAfter}
-use Rattle.receiver.specs.Shown.{shownOf}
-use Rattle.receiver.specs.Changes.{closes, Does, Changes, toldLength}
-use Rattle.receiver.proofs.LawsFrames.{Fair, fair}
-use Rattle.receiver.proofs.LawsSteps.{length-after}
-use Rattle.receiver.proofs.LawsReceived.{ready}
+use Rattle.receiver.specs.Steps.{kept, shut, opened, takenStep, followed, stepOf, judgedPlace, stepBy, ownOf, receivedBy, receivedAt, receivedOf, writtenBy, bufferAt, bufferAfter, nothingTold, outcomeTold}
+use Rattle.receiver.specs.Changes.{closes, Does, Changes, ClosedFor, Leaves}
+use Rattle.receiver.specs.Wire.{Addressed}
+use Rattle.receiver.proofs.LawsNodes.{put-back}
+use Rattle.receiver.proofs.LawsFrames.{fair, refused-number}
 
 -- ---- what each outcome changes
-abbrev By : Reception → ℕ → Step → Type 0
-By r stamp s = Changes r stamp s (s .outcome)
+abbrev By : Reception → List ℕ → ℕ → Step → Type 0
+By r bytes stamp s = Changes r bytes stamp s (s .outcome)
 
 does-nothing : (r x : Reception) (o : Outcome) → x ≡ r → Does (kept x o) 0 0 0 r
 unfolding kept
 does-nothing r x o e = record { written-at = refl; read-from = refl; bytes = refl; reception = e }
 
-refused-keeps : (r : Reception) (stamp : ℕ) (why : Refusal) → closes why ≡ false → Holds (By r stamp) (kept r (Refused why))
-unfolding kept
-refused-keeps r stamp why e = record { holds = does-nothing _ r (Refused why) (sym (pick-false closed r e)) }
-
-refused-shuts : (r : Reception) (stamp : ℕ) (why : Refusal) → closes why ≡ true → Holds (By r stamp) (shut (Refused why))
-unfolding shut kept
-refused-shuts r stamp why e = record { holds = does-nothing _ closed (Refused why) (sym (pick-true closed r e)) }
-
-changes-taken : (r : Reception) (from : Position) (stamp : ℕ) → Holds (By r stamp) (takenStep r from stamp)
-unfolding takenStep
-changes-taken r from stamp =
-    by-test _ (λ a. record { holds = record { written-at = refl; read-from = refl; bytes = refl; reception = refl } })
-    (λ a. record { holds = record { written-at = refl; read-from = refl; bytes = refl; reception = refl } })
-
-changes-followed : (r : Reception) (from : Position) (number count stamp : ℕ) → Holds (By r stamp) (followed r from number count stamp)
-unfolding followed closes either
-changes-followed r from number count stamp =
-    by-test _ (λ a. refused-keeps r stamp (refusal 12) refl)
-    (λ a. by-test _ (λ b. refused-keeps r stamp (refusal 9) refl)
-    (λ b. by-test _ (λ d. by-test _ (λ e. refused-shuts r stamp (refusal 14) refl) (λ e. changes-taken r from stamp)) (λ d. refused-shuts r stamp (refusal 13) refl)))
-
-low-keeps : (why : Refusal) → numberOf why ≤ 10 → closes why ≡ false
+low-keeps : (number : ℕ) → number ≤ 10 → closes number ≡ false
 unfolding closes
-low-keeps why h = sym (right-decides (ne-eqb (numberOf why) 13 (λ (e : numberOf why ≡ 13). omega arith)) (sym (ne-eqb (numberOf why) 14 (λ (e : numberOf why ≡ 14). omega arith))))
+low-keeps number h =
+    sym (right-decides (ne-eqb number 11 (λ (e : number ≡ 11). omega arith))
+    (right-decides (ne-eqb number 13 (λ (e : number ≡ 13). omega arith)) (sym (ne-eqb number 14 (λ (e : number ≡ 14). omega arith)))))
 
-single-changes : (r : Reception) (stamp : ℕ) (from : Position) (functional : Bool) (L : ℕ) → Holds (By r stamp) (pick functional (kept r (Single from functional L)) (shut (Single from functional L)))
-unfolding pick shut kept
-single-changes r stamp from true L = record { holds = does-nothing r r (Single from true L) refl }
-single-changes r stamp from false L = record { holds = does-nothing closed closed (Single from false L) refl }
+module _ (r : Reception) (bytes : List ℕ) (stamp : ℕ) where
+  refused-keeps : (why : Refusal) → closes (numberOf why) ≡ false → Holds (By r bytes stamp) (kept r (Refused why))
+  unfolding kept
+  refused-keeps why e = record { holds = does-nothing _ r (Refused why) (sym (pick-false closed r e)) }
 
-changes-judged : (own : Position) (unit identifier : ℕ) (bytes : List ℕ) (r : Reception) (stamp : ℕ) (j : Judged) → Fair own unit identifier bytes j → By r stamp (stepOf r j (length bytes) stamp)
-unfolding stepOf opened shut kept
-changes-judged own unit identifier bytes r stamp (judged.Refused why) f = refused-keeps r stamp why (low-keeps why (f .1)) .holds
-changes-judged own unit identifier bytes r stamp (judged.Single from functional L) f = single-changes r stamp from functional L .holds
-changes-judged own unit identifier bytes r stamp (judged.First from L) f = record { written-at = refl; read-from = refl; bytes = refl; reception = refl }
-changes-judged own unit identifier bytes r stamp (judged.OverLong from) f = does-nothing closed closed (OverLong from) refl
-changes-judged own unit identifier bytes r stamp (judged.Consecutive from number) f = changes-followed r from number (length bytes) stamp .holds
+  refused-shuts : (why : Refusal) → closes (numberOf why) ≡ true → Holds (By r bytes stamp) (shut (Refused why))
+  unfolding shut kept
+  refused-shuts why e = record { holds = does-nothing _ closed (Refused why) (sym (pick-true closed r e)) }
+
+  changes-taken : (from : Position) → Holds (By r bytes stamp) (takenStep r from stamp)
+  unfolding takenStep
+  changes-taken from =
+      by-test _ (λ a. record { holds = record { written-at = refl; read-from = refl; bytes = refl; reception = refl } })
+      (λ a. record { holds = record { written-at = refl; read-from = refl; bytes = refl; reception = refl } })
+
+  changes-followed : (from : Position) (number : ℕ) → Holds (By r bytes stamp) (followed r from number (length bytes) stamp)
+  unfolding followed closes either
+  changes-followed from number =
+      by-test _ (λ a. refused-keeps (refusal 12) refl)
+      (λ a. by-test _ (λ b. refused-keeps (refusal 9) refl)
+      (λ b. by-test _ (λ d. by-test _ (λ e. refused-shuts (refusal 14) refl) (λ e. changes-taken from)) (λ d. refused-shuts (refusal 13) refl)))
+
+  single-changes : (from : Position) (functional : Bool) (L : ℕ) → Holds (By r bytes stamp) (pick functional (kept r (Single from functional L)) (shut (Single from functional L)))
+  unfolding pick shut kept
+  single-changes from true L = record { holds = does-nothing r r (Single from true L) refl }
+  single-changes from false L = record { holds = does-nothing closed closed (Single from false L) refl }
+
+  changes-judged : (own : Position) (unit identifier : ℕ) (j : Judged) → judgedOf own unit identifier bytes ≡ j → By r bytes stamp (stepOf r j (length bytes) stamp)
+  unfolding stepOf opened shut kept
+  changes-judged own unit identifier (judged.Refused why) f = refused-keeps why (low-keeps _ (refused-number own unit identifier bytes why f .1)) .holds
+  changes-judged own unit identifier (judged.Single from functional L) f = single-changes from functional L .holds
+  changes-judged own unit identifier (judged.First from L) f =
+      record { written-at = refl; read-from = refl; bytes = refl; reception = rw (fair own unit identifier bytes _ f .1 .named) }
+  changes-judged own unit identifier (judged.OverLong from) f = does-nothing closed closed (OverLong from) refl
+  changes-judged own unit identifier (judged.Consecutive from number) f = changes-followed from number .holds
 
 -- of every frame and every reception
 pub what-changes : (own : Position) (unit identifier : ℕ) (bytes : List ℕ) (r : Reception) (stamp : ℕ)
-    → let s = stepOf r (judgedOf own unit identifier bytes) (length bytes) stamp in Changes r stamp s (s .outcome)
-what-changes own unit identifier bytes r stamp = changes-judged own unit identifier bytes r stamp (judgedOf own unit identifier bytes) (fair own unit identifier bytes (judgedOf own unit identifier bytes) refl)
+    → let s = stepOf r (judgedOf own unit identifier bytes) (length bytes) stamp in Changes r bytes stamp s (s .outcome)
+what-changes own unit identifier bytes r stamp = changes-judged r bytes stamp own unit identifier (judgedOf own unit identifier bytes) refl
 
--- ---- a refusal: the buffer stays, and the node too but for 13 and 14
-put-back : (n : Node) (p : ℕ) → withReception n p (receptionAt n p) ≡ n
-unfolding withReception receptionAt
-put-back n p = ap (λ (l : List Reception). record { own = n .own; unit = n .unit; receptions = l }) (set-getD (n .receptions) p closed)
+-- ---- what a refusal leaves
+nothing-written : (buffer : List ℕ) (s : Step) (bytes : List ℕ) → s .at ≡ 0 → s .start ≡ 0 → s .count ≡ 0 → writtenBy buffer s bytes ≡ buffer
+unfolding writtenBy
+nothing-written buffer s bytes a b c = rw (a, b, c) (written-none buffer 0)
 
--- what a refusal leaves: a node found as n, a buffer found as b
-pub record Leaves (n : Node) (b : List ℕ) (why : Refusal) (node : Node) (buffer : List ℕ) : Type 0 where
-  pub place : ℕ
-  pub buffer-stays : buffer ≡ b
-  pub node-stays : node ≡ pick (closes why) (withReception n place closed) n
+module _ (n : Node) (buffer : List ℕ) (identifier : ℕ) (bytes : List ℕ) (stamp number : ℕ) (some : number ≢ 0) where
+  -- a step of the vehicle p, whose address is the frame's SA
+  module _ (p : Position) (by-source : vehicleOf (identifier % 2 ^ 8) ≡ At p) (s : Step) where
+    abbrev Left : Type 0
+    Left = Leaves n buffer identifier number (withReception n (placeOf p) (s .reception)) (writtenBy buffer s bytes)
 
-none-written : (buffer : List ℕ) (s : Step) (bytes : List ℕ) → s .at ≡ 0 → s .start ≡ 0 → s .count ≡ 0 → writtenBy buffer s bytes ≡ buffer
-unfolding writtenBy written
-none-written buffer s bytes a b c = rw (a, b, c)
+    left : (t : Bool) → closes number ≡ t → Does s 0 0 0 (pick t closed (receptionAt n (placeOf p))) → Left
+    unfolding pick
+    left true c d = record {
+      buffer-stays = nothing-written buffer s bytes (d .written-at) (d .read-from) (d .bytes);
+      node-stays = λ e. absurd (false≢true (sym e ∙ c));
+      node-closes = λ e. record { vehicle = p; by-source = by-source; closed-there = ap (withReception n (placeOf p)) (d .reception) };
+    }
+    left false c d = record {
+      buffer-stays = nothing-written buffer s bytes (d .written-at) (d .read-from) (d .bytes);
+      node-stays = λ e. ap (withReception n (placeOf p)) (d .reception) ∙ put-back n (placeOf p);
+      node-closes = λ e. absurd (false≢true (sym c ∙ e));
+    }
 
-kept-or-shut : (n : Node) (p : ℕ) (t : Bool) (r : Reception) → r ≡ pick t closed (receptionAt n p) → withReception n p r ≡ pick t (withReception n p closed) n
-unfolding pick
-kept-or-shut n p true r e = ap (withReception n p) e
-kept-or-shut n p false r e = ap (withReception n p) e ∙ put-back n p
+    step-leaves : (o : Outcome) → Changes (receptionAt n (placeOf p)) bytes stamp s o → outcomeTold o .refusal ≡ number → Left
+    unfolding outcomeTold nothingTold closes either pick
+    step-leaves (Refused why) d e = left (closes number) refl (subst (λ (k : ℕ). Does s 0 0 0 (pick (closes k) closed (receptionAt n (placeOf p)))) e d)
+    step-leaves (OverLong from) d e = left true (ap closes (sym e)) d
+    step-leaves (Opened from) d e = absurd (some (sym e))
+    step-leaves (Taken from) d e = absurd (some (sym e))
+    step-leaves (Single from functional L) d e = absurd (some (sym e))
+    step-leaves (Train from L) d e = absurd (some (sym e))
 
-module _ (n : Node) (buffer : List ℕ) (identifier : ℕ) (bytes : List ℕ) (stamp : ℕ) (why : Refusal) where
-  step-leaves : (p : ℕ) (s : Step) → s .outcome ≡ Refused why → Changes (receptionAt n p) stamp s (s .outcome) → Leaves n buffer why (withReception n p (s .reception)) (writtenBy buffer s bytes)
-  step-leaves p s e x =
-      let d : Does s 0 0 0 (pick (closes why) closed (receptionAt n p)) = subst (Changes (receptionAt n p) stamp s) e x in
-      record { place = p; buffer-stays = none-written buffer s bytes (d .written-at) (d .read-from) (d .bytes); node-stays = kept-or-shut n p (closes why) (s .reception) (d .reception) }
+  -- refusals 1 to 10 leave all as found
+  as-found : number ≤ 10 → Leaves n buffer identifier number n buffer
+  as-found h = record { buffer-stays = refl; node-stays = λ e. refl; node-closes = λ e. absurd (false≢true (sym (low-keeps number h) ∙ e)) }
 
-  as-found : Refused (refusal 1) ≡ Refused why → Leaves n buffer why n buffer
-  unfolding closes either pick
-  as-found e = let h : refusal 1 ≡ why = cc in record { place = 0; buffer-stays = refl; node-stays = rw (← h) }
+  source : {own : Position} {unit : ℕ} {p : Position} {functional : Bool} → Addressed own unit identifier bytes p functional → vehicleOf (identifier % 2 ^ 8) ≡ At p
+  source {p = p} a = ap vehicleOf (sym (source-is identifier) ∙ a .source) ∙ address-back p
 
-  at-vehicle : (v : Vehicle) → receivedAt n identifier bytes stamp v .outcome ≡ Refused why → Leaves n buffer why (receivedAt n identifier bytes stamp v .node) (bufferAt n buffer identifier bytes stamp v)
-  unfolding receivedAt receivedBy bufferAt stepBy
-  at-vehicle NoVehicle e = as-found e
-  at-vehicle (At own) e = step-leaves (judgedPlace (judgedOf own (n .unit) identifier bytes)) _ e (what-changes own (n .unit) identifier bytes _ stamp)
+  abbrev stepFrom : ℕ → Judged → Step
+  stepFrom place j = stepOf (receptionAt n place) j (length bytes) stamp
 
-  -- of every node, buffer and frame
-  pub refusal-leaves : receivedOf n buffer identifier bytes stamp .outcome ≡ Refused why → Leaves n buffer why (receivedOf n buffer identifier bytes stamp .node) (bufferAfter n buffer identifier bytes stamp)
+  abbrev LeavesBy : ℕ → Step → Type 0
+  LeavesBy place s = outcomeTold (s .outcome) .refusal ≡ number → Leaves n buffer identifier number (withReception n place (s .reception)) (writtenBy buffer s bytes)
+
+  of-vehicle : (own p : Position) (j : Judged) → judgedOf own (n .unit) identifier bytes ≡ j → vehicleOf (identifier % 2 ^ 8) ≡ At p → LeavesBy (placeOf p) (stepFrom (placeOf p) j)
+  of-vehicle own p j f by-source =
+      let s = stepFrom (placeOf p) j in
+      step-leaves p by-source s (s .outcome) (changes-judged (receptionAt n (placeOf p)) bytes stamp own (n .unit) identifier j f)
+
+  unnamed : (own : Position) (why : Refusal) → judgedOf own (n .unit) identifier bytes ≡ judged.Refused why → LeavesBy 0 (stepFrom 0 (judged.Refused why))
+  unfolding stepOf kept outcomeTold nothingTold
+  unnamed own why f e =
+      let low : number ≤ 10 = rw e at (refused-number own (n .unit) identifier bytes why f .1) in
+      rw (put-back n 0, nothing-written buffer (kept (receptionAt n 0) (Refused why)) bytes refl refl refl) (as-found low)
+
+  judged-leaves : (own : Position) (j : Judged) → judgedOf own (n .unit) identifier bytes ≡ j → LeavesBy (judgedPlace j) (stepFrom (judgedPlace j) j)
+  judged-leaves own (judged.Refused why) f = unnamed own why f
+  judged-leaves own (judged.Single p functional L) f = of-vehicle own p _ f (source (fair own (n .unit) identifier bytes _ f .0))
+  judged-leaves own (judged.First p L) f = of-vehicle own p _ f (source (fair own (n .unit) identifier bytes _ f .0))
+  judged-leaves own (judged.OverLong p) f = of-vehicle own p _ f (source (fair own (n .unit) identifier bytes _ f .0))
+  judged-leaves own (judged.Consecutive p k) f = of-vehicle own p _ f (source (fair own (n .unit) identifier bytes _ f .0))
+
+  leaves-at : (v : Vehicle) → outcomeTold (receivedAt n identifier bytes stamp v .outcome) .refusal ≡ number
+      → Leaves n buffer identifier number (receivedAt n identifier bytes stamp v .node) (bufferAt n buffer identifier bytes stamp v)
+  unfolding receivedAt receivedBy bufferAt stepBy outcomeTold nothingTold
+  leaves-at NoVehicle e = as-found (omega (arith, e))
+  leaves-at (At own) e = judged-leaves own _ refl e
+
+  -- "A refusal .. leaves state and buffers as found; 11, 13 and 14 close that vehicle's reception": of every node, buffer and frame
+  pub refusal-leaves : outcomeTold (receivedOf n buffer identifier bytes stamp .outcome) .refusal ≡ number
+      → Leaves n buffer identifier number (receivedOf n buffer identifier bytes stamp .node) (bufferAfter n buffer identifier bytes stamp)
   unfolding receivedOf bufferAfter
-  refusal-leaves = at-vehicle (ownOf n (length buffer))
-
--- ---- the shown message has exactly the told length
-abbrev Shows : List ℕ → List ℕ → Step → Type 0
-Shows bytes buffer s = length (shownOf bytes buffer (s .outcome)) ≡ toldLength (s .outcome)
-
-module _ (bytes buffer : List ℕ) (room : length buffer ≡ 1536) (r : Reception) (short : r .length ≤ 255) (stamp : ℕ) where
-  shows-refused : (x : Reception) (why : Refusal) → Holds (Shows bytes buffer) (kept x (Refused why))
-  unfolding kept shownOf
-  shows-refused x why = record { holds = refl }
-
-  shows-taken : (from : Position) → Holds (Shows bytes buffer) (takenStep r from stamp)
-  unfolding takenStep shownOf regionAt
-  shows-taken from = by-test (ltb 6 (leftOf r)) (λ a. record { holds = refl }) (λ a. record { holds = length-take-le (r .length) (drop (256 * placeOf from) buffer) (rw length-drop (omega (arith, place-below from))) })
-
-  shows-followed : (from : Position) (number : ℕ) → Holds (Shows bytes buffer) (followed r from number (length bytes) stamp)
-  unfolding followed shut
-  shows-followed from number =
-      by-test _ (λ a. shows-refused r _)
-      (λ a. by-test _ (λ b. shows-refused r _) (λ b. by-test _ (λ d. by-test _ (λ e. shows-refused closed _) (λ e. shows-taken from)) (λ d. shows-refused closed _)))
-
-  shows-single : (from : Position) (functional : Bool) (L : ℕ) → 2 + L ≤ length bytes → Holds (Shows bytes buffer) (pick functional (kept r (Single from functional L)) (shut (Single from functional L)))
-  unfolding shut kept shownOf
-  shows-single from functional L h =
-      let e : length (take L (drop 2 bytes)) ≡ L = length-take-le L (drop 2 bytes) (rw length-drop (omega arith)) in
-      by-test functional (λ a. record { holds = e }) (λ a. record { holds = e })
-
-  shows-step : (own : Position) (unit identifier : ℕ) (j : Judged) → Fair own unit identifier bytes j → Shows bytes buffer (stepOf r j (length bytes) stamp)
-  unfolding stepOf opened shut kept shownOf
-  shows-step own unit identifier (judged.Refused why) f = refl
-  shows-step own unit identifier (judged.Single from functional L) f = shows-single from functional L (f .1 .room) .holds
-  shows-step own unit identifier (judged.First from L) f = refl
-  shows-step own unit identifier (judged.OverLong from) f = refl
-  shows-step own unit identifier (judged.Consecutive from number) f = shows-followed from number .holds
-
-module _ (n : Node) (buffer : List ℕ) (identifier : ℕ) (bytes : List ℕ) (stamp : ℕ) (short : (p : ℕ) → receptionAt n p .length ≤ 255) where
-  shown-at : (v : Vehicle) → ((own : Position) → v ≡ At own → length buffer ≡ 1536)
-      → length (shownOf bytes (bufferAt n buffer identifier bytes stamp v) (receivedAt n identifier bytes stamp v .outcome)) ≡ toldLength (receivedAt n identifier bytes stamp v .outcome)
-  unfolding receivedAt receivedBy bufferAt stepBy shownOf
-  shown-at NoVehicle room = refl
-  shown-at (At own) room =
-      let j = judgedOf own (n .unit) identifier bytes in
-      shows-step bytes _ (length-after buffer _ bytes ∙ room own refl) (receptionAt n (judgedPlace j)) (short (judgedPlace j)) stamp own (n .unit) identifier j (fair own (n .unit) identifier bytes j refl)
-
-  -- of every node whose lengths are bytes, every buffer and every frame
-  pub shown-length : length (shownOf bytes (bufferAfter n buffer identifier bytes stamp) (receivedOf n buffer identifier bytes stamp .outcome)) ≡ toldLength (receivedOf n buffer identifier bytes stamp .outcome)
-  unfolding receivedOf bufferAfter
-  shown-length = shown-at (ownOf n (length buffer)) (λ own e. ready n (length buffer) own e .fits)
+  refusal-leaves = leaves-at (ownOf n (length buffer))

@@ -1,21 +1,27 @@
 -- What an outcome says of the node and of the buffer afterwards (document 01, "Refusal numbers": "A refusal .. leaves state and buffers as found; 11, 13 and 14 close that vehicle's reception").
 use mathlib.Core.Path.{_≡_}
-use mathlib.Core.Bool.{Bool}
-use Prim.Native.Nat.{ℕ, _+_}
+use mathlib.Core.Bool.{Bool, true, false}
+use mathlib.Core.List.{List}
+use Prim.Native.Nat.{ℕ, _+_, _*_, _%_, _^_}
 use lib.Dec.{eqb}
+use lib.ListN.{getD}
 use Rattle.identifiers.specs.Choice.{pick, either}
 use Rattle.identifiers.specs.Refusals.{numberOf}
-use Rattle.identifiers.specs.declared.refusal.Refusal.{Refusal}
+use Rattle.readings.specs.Positions.{placeOf, vehicleOf}
+use Rattle.readings.specs.declared.position.Position.{Position}
+use Rattle.readings.specs.declared.position.Vehicle.the-variants.{At}
 use Rattle.receiver.specs.declared.reception.Reception.{Reception}
+use Rattle.receiver.specs.declared.node.Node.{Node}
 use Rattle.receiver.specs.declared.step.Step.{Step}
 use Rattle.receiver.specs.declared.step.Outcome.{Outcome}
 use Rattle.receiver.specs.declared.step.Outcome.the-variants.{Refused, OverLong, Opened, Taken, Single, Train}
 use Rattle.receiver.specs.Receptions.{closed, openWith}
+use Rattle.receiver.specs.Nodes.{withReception}
 use Rattle.receiver.specs.Steps.{regionAt, doneOf, leftOf}
 
--- of the refusals that are told as such, 13 and 14 close; 11 is an outcome of its own
-unfoldable pub closes : Refusal → Bool
-closes why = either (eqb (numberOf why) 13) (eqb (numberOf why) 14)
+-- "11, 13 and 14 close that vehicle's reception"
+unfoldable pub closes : ℕ → Bool
+closes number = either (eqb number 11) (either (eqb number 13) (eqb number 14))
 
 -- `count` bytes of the frame's data, from `start` on, go to `at`, and the vehicle's reception becomes r
 pub record Does (s : Step) (at start count : ℕ) (r : Reception) : Type 0 where
@@ -24,20 +30,23 @@ pub record Does (s : Step) (at start count : ℕ) (r : Reception) : Type 0 where
   pub bytes : s .count ≡ count
   pub reception : s .reception ≡ r
 
--- a step that found the reception r, at a frame with this stamp
-abbrev pub Changes : Reception → ℕ → Step → Outcome → Type 0
-Changes r stamp s (Refused why) = Does s 0 0 0 (pick (closes why) closed r)
-Changes r stamp s (OverLong from) = Does s 0 0 0 closed
-Changes r stamp s (Opened from) = Does s (regionAt from) 3 5 (openWith (s .reception .length) 0 stamp)
-Changes r stamp s (Taken from) = Does s (regionAt from + doneOf r) 2 6 (openWith (r .length) (r .taken + 1) stamp)
-Changes r stamp s (Single from functional L) = Does s 0 0 0 (pick functional r closed)
-Changes r stamp s (Train from L) = Does s (regionAt from + doneOf r) 2 (leftOf r) closed
+-- a step that found the reception r, at a frame with these bytes and this stamp
+abbrev pub Changes : Reception → List ℕ → ℕ → Step → Outcome → Type 0
+Changes r bytes stamp s (Refused why) = Does s 0 0 0 (pick (closes (numberOf why)) closed r)
+Changes r bytes stamp s (OverLong from) = Does s 0 0 0 closed
+Changes r bytes stamp s (Opened from) = Does s (regionAt from) 3 5 (openWith (getD bytes 1 0 % 16 * 256 + getD bytes 2 0) 0 stamp)
+Changes r bytes stamp s (Taken from) = Does s (regionAt from + doneOf r) 2 6 (openWith (r .length) (r .taken + 1) stamp)
+Changes r bytes stamp s (Single from functional L) = Does s 0 0 0 (pick functional r closed)
+Changes r bytes stamp s (Train from L) = Does s (regionAt from + doneOf r) 2 (leftOf r) closed
 
--- the length that an outcome tells: 0 where nothing is handed out
-abbrev pub toldLength : Outcome → ℕ
-toldLength (Refused why) = 0
-toldLength (OverLong from) = 0
-toldLength (Opened from) = 0
-toldLength (Taken from) = 0
-toldLength (Single from functional L) = L
-toldLength (Train from L) = L
+-- "that vehicle's reception": of the vehicle whose address is the frame's SA; it is closed, and nothing else of the node changes
+pub record ClosedFor (n : Node) (identifier : ℕ) (node : Node) : Type 0 where
+  pub vehicle : Position
+  pub by-source : vehicleOf (identifier % 2 ^ 8) ≡ At vehicle
+  pub closed-there : node ≡ withReception n (placeOf vehicle) closed
+
+-- what a refusal with this number leaves of a node found as n and a buffer found as b
+pub record Leaves (n : Node) (b : List ℕ) (identifier number : ℕ) (node : Node) (buffer : List ℕ) : Type 0 where
+  pub buffer-stays : buffer ≡ b
+  pub node-stays : closes number ≡ false → node ≡ n
+  pub node-closes : closes number ≡ true → ClosedFor n identifier node

@@ -3,6 +3,7 @@ pub mod Receptions
 pub mod Nodes
 pub mod Frames
 pub mod Wire
+pub mod Names
 pub mod Steps
 pub mod Shown
 pub mod Cuts

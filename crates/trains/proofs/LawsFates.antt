@@ -17,7 +17,7 @@ use Rattle.receiver.specs.declared.frame.Judged.the-variants.{Refused, Single, 
 use Rattle.receiver.specs.Frames.{Frame}
 use Rattle.receiver.specs.Steps.{gapOf}
 use Rattle.trains.specs.Sequences.{Line, _▹_, physicalOf, due, seen, Elsewhere, elsewhere, too-short, Next, Underway, begins, passes, goes-on, Complete}
-use Rattle.receiver.proofs.LawsFrames.{fair}
+use Rattle.receiver.proofs.LawsFrames.{refused-number}
 use Rattle.trains.proofs.LawsSequences.{one-underway, passed-next, grown, completed}
 use Rattle.trains.specs.Terms.{origin, Rests, Aside, by-refusal, by-function, by-vehicle, Ends, by-single, by-first, by-over-long, by-number, by-lateness, Fate, passed-over, taken, completes, ended, Follows}
 
@@ -142,7 +142,7 @@ module _ {own : Position} {unit : ℕ} {p : Position} {f : Frame} where
 module _ (own : Position) (unit : ℕ) (p : Position) (f : Frame) where
   aside-from : (j : Judged) → seen own unit f ≡ j → (physicalOf j ≡ At p → ⊥) → Aside own unit p f
   unfolding physicalOf
-  aside-from (Refused why) e n = let s = fair own unit (f .identifier) (f .bytes) _ e in by-refusal e (s .0) (s .1)
+  aside-from (Refused why) e n = let s = refused-number own unit (f .identifier) (f .bytes) why e in by-refusal e (s .0) (s .1)
   aside-from (Single q true L) e n = by-function e
   aside-from (Single q false L) e n = by-vehicle (ap physicalOf e) (λ d. n (ap At d))
   aside-from (First q L) e n = by-vehicle (ap physicalOf e) (λ d. n (ap At d))

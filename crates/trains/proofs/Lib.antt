@@ -8,5 +8,6 @@ pub mod LawsCarried
 pub mod LawsOwn
 pub mod LawsReadBack
 pub mod LawsSent
+pub mod LawsRuns
 pub mod Examples
 pub mod Demand3

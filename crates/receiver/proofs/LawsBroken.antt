@@ -1,0 +1,127 @@
+-- Refusal 1 exactly where document 01 gives it: where the node's state breaks its rules, or the buffer has another length than 1,536.
+use mathlib.Core.Path.{_≡_, refl, sym, ap, _∙_}
+use mathlib.Core.Bool.{Bool, true, false, false≢true}
+use mathlib.Core.List.{List}
+use mathlib.Core.Logic.{_↔_}
+use Prim.Native.Nat.{ℕ, _+_, _*_, _<_, _≤_}
+use native.Mathlib.Omega.{arith}
+use borrow.Author.Tests.{leb-true, leb-false, ltb-false, eqb-true, eqb-false, lt-leb, le-ltb, eq-eqb, ne-eqb}
+use lib.Dec.{leb, ltb, eqb}
+use lib.ListN.{length}
+use Rattle.identifiers.specs.Choice.{pick, both}
+use Rattle.identifiers.specs.Below.{allBelow}
+use Rattle.identifiers.specs.Refusals.{refusal}
+use Rattle.identifiers.proofs.LawsChoice.{Holds, by-test, pick-true, pick-false, both-false, both-true, stop, so}
+use Rattle.identifiers.proofs.LawsBelow.{all-not, all-fails}
+use Rattle.readings.specs.Positions.{trailerAt}
+use Rattle.readings.specs.declared.position.Position.{Position}
+use Rattle.readings.specs.declared.position.Vehicle.{Vehicle}
+use Rattle.readings.specs.declared.position.Vehicle.the-variants.{At, NoVehicle}
+use Rattle.readings.proofs.LawsPositions.{trailer-none}
+use Rattle.receiver.specs.declared.reception.Reception.{Reception}
+use Rattle.receiver.specs.declared.node.Node.{Node}
+use Rattle.receiver.specs.declared.frame.Judged.{Judged}
+use Rattle.receiver.specs.declared.frame.Judged.the-variants as judged
+use Rattle.receiver.specs.declared.step.Step.{Step}
+use Rattle.receiver.specs.declared.step.Outcome.{Outcome}
+use Rattle.receiver.specs.declared.step.Outcome.the-variants.{Refused, OverLong, Opened, Single}
+use Rattle.receiver.specs.Receptions.{soundReception}
+use Rattle.receiver.specs.Nodes.{receptionAt, soundNode}
+use Rattle.receiver.specs.Frames.{judgedOf}
+use Rattle.receiver.specs.Steps.{kept, shut, opened, takenStep, followed, stepOf, stepBy, ownOf, receivedBy, receivedAt, receivedOf}
+use Rattle.receiver.specs.Names.{BrokenReception, closed-with-frames, closed-with-stamp, under-seven, none-left, Broken, not-a-trailer, past-the-last, broken-reception, other-room}
+use Rattle.receiver.proofs.LawsFrames.{refused-number}
+
+-- ---- a reception
+which-broken : (r : Reception) (none frames stamp seven left : Bool) → eqb (r .length) 0 ≡ none → eqb (r .taken) 0 ≡ frames → eqb (r .last) 0 ≡ stamp → leb 7 (r .length) ≡ seven
+    → ltb (5 + 6 * r .taken) (r .length) ≡ left → pick none (both frames stamp) (both seven left) ≡ false → BrokenReception r
+unfolding pick both
+which-broken r true false stamp seven left a b c d e f = closed-with-frames (eqb-true _ _ a) (eqb-false _ _ b)
+which-broken r true true false seven left a b c d e f = closed-with-stamp (eqb-true _ _ a) (eqb-false _ _ c)
+which-broken r true true true seven left a b c d e f = absurd (false≢true (sym f))
+which-broken r false frames stamp false left a b c d e f = under-seven (eqb-false _ _ a) (leb-false _ _ d)
+which-broken r false frames stamp true false a b c d e f = none-left (eqb-false _ _ a) (ltb-false _ _ e)
+which-broken r false frames stamp true true a b c d e f = absurd (false≢true (sym f))
+
+is-broken : (r : Reception) → BrokenReception r → soundReception r ≡ false
+unfolding soundReception
+is-broken r (closed-with-frames a b) = pick-true _ _ (eq-eqb _ _ a) ∙ sym (stop _ (ne-eqb _ _ b))
+is-broken r (closed-with-stamp a b) = pick-true _ _ (eq-eqb _ _ a) ∙ ap (both _) (ne-eqb _ _ b) ∙ both-false _
+is-broken r (under-seven a b) = pick-false _ _ (ne-eqb _ _ a) ∙ sym (stop _ (lt-leb _ _ b))
+is-broken r (none-left a b) = pick-false _ _ (ne-eqb _ _ a) ∙ ap (both _) (le-ltb _ _ b) ∙ both-false _
+
+pub broken-exactly : (r : Reception) → soundReception r ≡ false ↔ BrokenReception r
+unfolding soundReception
+broken-exactly r = (which-broken r _ _ _ _ _ refl refl refl refl refl, is-broken r)
+
+-- ---- the node and its buffer
+module _ (n : Node) (buffer : List ℕ) where
+  abbrev test : ℕ → Bool
+  test p = soundReception (receptionAt n p)
+
+  which-fails : (low high all room : Bool) → leb 1 (n .own) ≡ low → leb (n .own) 5 ≡ high → allBelow test 6 ≡ all → eqb (length buffer) 1536 ≡ room
+      → pick (both (both low (both high all)) room) (trailerAt (n .own)) NoVehicle ≡ NoVehicle → Broken n buffer
+  unfolding pick both
+  which-fails false high all room a b c d e = not-a-trailer (leb-false _ _ a)
+  which-fails true false all room a b c d e = past-the-last (leb-false _ _ b)
+  which-fails true true false room a b c d e = let x = all-not test 6 c in broken-reception (x .1 .0) (broken-exactly _ .0 (x .1 .1))
+  which-fails true true true false a b c d e = other-room (eqb-false _ _ d)
+  which-fails true true true true a b c d e = past-the-last (trailer-none _ (leb-true _ _ a) e)
+
+  not-sound : soundNode n ≡ false → ownOf n (length buffer) ≡ NoVehicle
+  unfolding ownOf
+  not-sound h = pick-false _ _ (sym (stop _ h))
+
+  no-own : Broken n buffer → ownOf n (length buffer) ≡ NoVehicle
+  unfolding ownOf soundNode
+  no-own (not-a-trailer h) = not-sound (sym (stop _ (lt-leb _ _ h)))
+  no-own (past-the-last h) = not-sound (ap (both _) (sym (stop _ (lt-leb _ _ h))) ∙ both-false _)
+  no-own (broken-reception {p} l x) = not-sound (ap (both _) (ap (both _) (all-fails test p 6 l (broken-exactly _ .1 x)) ∙ both-false _) ∙ both-false _)
+  no-own (other-room h) = pick-false _ _ (ap (both _) (ne-eqb _ _ h) ∙ both-false _)
+
+  -- ---- a frame that is judged is never refused with 1
+  abbrev NotOne : Step → Type 0
+  NotOne s = s .outcome ≡ Refused (refusal 1) → ⊥
+
+  module _ (r : Reception) (count stamp : ℕ) where
+    taken-not-1 : (from : Position) → Holds NotOne (takenStep r from stamp)
+    unfolding takenStep
+    taken-not-1 from =
+        by-test _ (λ a. record { holds = λ e. let z : _≡_ {A = ℕ} 0 1 = cc in omega arith }) (λ a. record { holds = λ e. let z : _≡_ {A = ℕ} 0 1 = cc in omega arith })
+
+    followed-not-1 : (from : Position) (number : ℕ) → Holds NotOne (followed r from number count stamp)
+    unfolding followed shut kept
+    followed-not-1 from number =
+        by-test _ (λ a. record { holds = λ e. let z : _≡_ {A = ℕ} 0 1 = cc in omega arith })
+        (λ a. by-test _ (λ b. record { holds = λ e. let z : _≡_ {A = ℕ} 0 1 = cc in omega arith })
+        (λ b. by-test _ (λ c. by-test _ (λ d. record { holds = λ e. let z : _≡_ {A = ℕ} 0 1 = cc in omega arith }) (λ d. taken-not-1 from))
+        (λ c. record { holds = λ e. let z : _≡_ {A = ℕ} 0 1 = cc in omega arith })))
+
+    single-not-1 : (from : Position) (functional : Bool) (L : ℕ) → Holds NotOne (pick functional (kept r (Single from functional L)) (shut (Single from functional L)))
+    unfolding shut kept
+    single-not-1 from functional L = by-test _ (λ a. record { holds = λ e. let z : _≡_ {A = ℕ} 0 1 = cc in omega arith }) (λ a. record { holds = λ e. let z : _≡_ {A = ℕ} 0 1 = cc in omega arith })
+
+  module _ (identifier : ℕ) (bytes : List ℕ) (stamp : ℕ) where
+    step-not-1 : (own : Position) (r : Reception) (j : Judged) → judgedOf own (n .unit) identifier bytes ≡ j → NotOne (stepOf r j (length bytes) stamp)
+    unfolding stepOf opened shut kept
+    step-not-1 own r (judged.Refused why) f =
+        λ (e : Refused why ≡ Refused (refusal 1)).
+        let same : why ≡ refusal 1 = cc in
+        omega (arith, refused-number own (n .unit) identifier bytes (refusal 1) (f ∙ ap judged.Refused same) .0)
+    step-not-1 own r (judged.Single from functional L) f = single-not-1 r (length bytes) stamp from functional L .holds
+    step-not-1 own r (judged.First from L) f = λ (e : Opened from ≡ Refused (refusal 1)). let z : _≡_ {A = ℕ} 0 1 = cc in omega arith
+    step-not-1 own r (judged.OverLong from) f = λ (e : OverLong from ≡ Refused (refusal 1)). let z : _≡_ {A = ℕ} 0 1 = cc in omega arith
+    step-not-1 own r (judged.Consecutive from number) f = followed-not-1 r (length bytes) stamp from number .holds
+
+    none-of : (v : Vehicle) → receivedAt n identifier bytes stamp v .outcome ≡ Refused (refusal 1) → v ≡ NoVehicle
+    unfolding receivedAt receivedBy stepBy
+    none-of NoVehicle e = refl
+    none-of (At own) e = absurd (step-not-1 own _ _ refl e)
+
+    -- of every node, buffer and frame
+    pub refused-1 : receivedOf n buffer identifier bytes stamp .outcome ≡ Refused (refusal 1) ↔ Broken n buffer
+    unfolding receivedOf receivedAt ownOf soundNode
+    refused-1 = (
+      λ e. which-fails _ _ _ _ refl refl refl refl (none-of (ownOf n (length buffer)) e),
+      λ (b : Broken n buffer). ap (λ (v : Vehicle). receivedAt n identifier bytes stamp v .outcome) (no-own b),
+    )
