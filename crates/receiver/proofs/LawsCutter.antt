@@ -5,7 +5,7 @@ use mathlib.Core.List.{List}
 use Prim.Native.Nat.{ℕ, _≤_}
 use native.Mathlib.Omega.{arith}
 use lib.Dec.{leb, eqb}
-use lib.ListN.{length}
+use lib.ListN.{length, replicate}
 use borrow.Author.Tests.{leb-true, eqb-true, le-leb, lt-ltb, eq-eqb}
 use Rattle.identifiers.specs.Choice.{pick, either}
 use Rattle.identifiers.specs.Refusals.{refusal}
@@ -17,13 +17,18 @@ use Rattle.readings.specs.declared.position.Vehicle.the-variants.{At, NoVehicle
 use Rattle.readings.proofs.LawsPositions.{position-past, position-none}
 use Rattle.receiver.specs.declared.node.Answer.the-variants.{Done, Refused}
 use Rattle.receiver.specs.declared.cutter.FrameCut.{FrameCut}
-use Rattle.receiver.specs.Cuts.{framesOf, noFrame, pieceOf, between, cutOf, Uncut, empty, too-long, past-last, no-sender, no-receiver, same-position}
+use Rattle.receiver.specs.Cuts.{framesOf, noFrame, cutTold, pieceOf, between, cutOf, Uncut, empty, too-long, past-last, no-sender, no-receiver, same-position}
 use Rattle.receiver.proofs.LawsPieces.{frames-none, none-else, between-first, between-second}
 use Rattle.receiver.proofs.LawsOnWire.{headed-done}
 
 pub none-16 : noFrame .answer ≡ Refused (refusal 16)
 unfolding noFrame
 none-16 = refl
+
+-- all its numbers but the refusal's are 0
+pub none-told : cutTold noFrame ≡ record { refusal = 16; length = 0; identifier = 0; «data» = replicate 8 0 }
+unfolding cutTold noFrame
+none-told = refl
 
 piece-done : (sender receiver : Position) (unit : ℕ) (message : List ℕ) (k : ℕ) → pieceOf sender receiver unit message k .answer ≡ Done
 unfolding pieceOf

@@ -6,7 +6,7 @@ use Prim.Native.Nat.{ℕ, _<_}
 use native.Mathlib.Omega.{arith}
 use borrow.Author.Tests.{eqb-true, eq-eqb}
 use lib.Dec.{eqb}
-use lib.ListN.{length}
+use lib.ListN.{length, set}
 use Rattle.identifiers.specs.Choice.{both}
 use Rattle.identifiers.specs.Refusals.{refusal}
 use Rattle.identifiers.proofs.LawsChoice.{pick-true, pick-false, was-taken, so, and-is, both-true}
@@ -80,7 +80,7 @@ module _ (n : Node) (buffer : List ℕ) (own : Position) (unit : ℕ) (s : sound
 
 -- ---- the node with the one reception stored that a frame moves is the node that is received
 module _ (n : Node) where
-  abbrev pub storedIn : Moved → Received
+  abbrev storedIn : Moved → Received
   storedIn m = record { node = withReception n (m .place) (m .reception); outcome = m .outcome }
 
   unmoved-stays : storedIn (unmovedAs n) ≡ record { node = n; outcome = Refused (refusal 1) }
@@ -99,9 +99,14 @@ module _ (n : Node) where
     place-at NoVehicle = omega arith
 
     module _ (buffer : List ℕ) {m : Moved} (is : m ≡ movedOf n buffer identifier bytes stamp) where
-      pub stored-moved : storedIn m ≡ receivedOf n buffer identifier bytes stamp
+      stored-moved : storedIn m ≡ receivedOf n buffer identifier bytes stamp
       unfolding movedOf receivedOf
       stored-moved = rw is (stored-at (ownOf n (length buffer)))
+
+      -- field by field
+      pub stored-fields : record { node = record { own = n .own; unit = n .unit; receptions = set (n .receptions) (m .place) (m .reception) }; outcome = m .outcome } ≡ receivedOf n buffer identifier bytes stamp
+      unfolding withReception
+      stored-fields = stored-moved
 
       pub place-moved : m .place < 6
       unfolding movedOf

@@ -25,7 +25,7 @@ use Rattle.receiver.specs.declared.step.Outcome.the-variants.{Refused, O
 use Rattle.receiver.specs.Receptions.{closed}
 use Rattle.receiver.specs.Nodes.{receptionAt}
 use Rattle.receiver.specs.Frames.{judgedOf}
-use Rattle.receiver.specs.Steps.{regionAt, kept, shut, opened, leftOf, takenStep, followed, stepOf, judgedPlace, stepBy, ownOf, receivedBy, receivedAt, receivedOf, bufferAt, bufferAfter, nothingTold, outcomeTold}
+use Rattle.receiver.specs.Steps.{regionAt, kept, shut, opened, leftOf, takenStep, followed, stepOf, judgedPlace, stepBy, ownOf, receivedBy, receivedAt, receivedOf, bufferAt, bufferAfter, dueOf, dueNumber, nothingTold, outcomeTold}
 use Rattle.receiver.specs.Shown.{shownOf, toldMessage}
 use Rattle.receiver.proofs.LawsFrames.{Fair, fair}
 use Rattle.receiver.proofs.LawsSteps.{length-after}
@@ -40,6 +40,16 @@ told-shown bytes buffer (Opened from) = refl
 told-shown bytes buffer (Taken from) = refl
 told-shown bytes buffer (Single from functional L) = refl
 told-shown bytes buffer (Train from L) = refl
+
+-- the control that is told is the one that is due
+pub told-due : (o : Outcome) → outcomeTold o .control ≡ dueNumber (dueOf o)
+unfolding outcomeTold nothingTold dueOf
+told-due (Refused why) = refl
+told-due (OverLong from) = refl
+told-due (Opened from) = refl
+told-due (Taken from) = refl
+told-due (Single from functional L) = refl
+told-due (Train from L) = refl
 
 -- ---- the shown message has exactly the told length
 abbrev Shows : List ℕ → List ℕ → Step → Type 0

@@ -143,6 +143,12 @@ dueOf (Taken from) = Nothing
 dueOf (Single from functional L) = Nothing
 dueOf (Train from L) = Nothing
 
+-- the control that is due by its number: 0 none, 1 continue, 2 overflow
+abbrev pub dueNumber : Due → ℕ
+dueNumber Nothing = 0
+dueNumber (Send Continue to) = 1
+dueNumber (Send Overflow to) = 2
+
 -- the outcome in document 01's numbers
 unfoldable pub nothingTold : ℕ → ℕ → ℕ → OutcomeTold
 nothingTold refused from control = record { refusal = refused; «handed_out» = 0; from = from; functional = false; start = 0; length = 0; control = control }

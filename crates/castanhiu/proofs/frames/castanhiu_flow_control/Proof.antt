@@ -1,9 +1,10 @@
 -- `castanhiu_flow_control` meets its contract: by the control's number, what the layer's function answers, told by its own definition.
-use mathlib.Core.Path.{ap, _∙_, refl}
+use mathlib.Core.Path.{refl, sym, ap, _∙_}
 use borrow.Author.Tests.{eq-eqb, ne-eqb}
 use Rattle.identifiers.proofs.LawsChoice.{taken, passed}
 use Rattle.receiver.specs.Cuts.{controlOf, cutTold, noFrame}
 use Rattle.receiver.specs.declared.step.Control.the-variants.{Continue, Overflow}
+use Rattle.receiver.proofs.LawsCutter.{none-told}
 use Rattle.castanhiu.specs.Numbers.{controlNumbered}
 use Rattle.castanhiu.proofs.frames.castanhiu_flow_control.Statement.{statement}
 use Rattle.castanhiu.proofs.frames.castanhiu_flow_control.Tie as tie
@@ -19,8 +20,9 @@ returns-2 c =
     (taken {x = controlOf Overflow _ _ _} _ (eq-eqb _ 2 (c .before .before .if2 .taken)) (c .before .flow-control2 .ensures)))
 
 returns-3 : tie.Need-returns-3
-unfolding controlNumbered cutTold noFrame
-returns-3 c = rw (c .number .ensures) (ap cutTold {x = noFrame} (passed _ (ne-eqb _ _ (c .before .before .if1 .left)) (passed _ (ne-eqb _ _ (c .before .if2 .left)) refl)))
+unfolding controlNumbered
+returns-3 c =
+    rw (c .number .ensures) (sym none-told ∙ ap cutTold {x = noFrame} (passed _ (ne-eqb _ _ (c .before .before .if1 .left)) (passed _ (ne-eqb _ _ (c .before .if2 .left)) refl)))
 
 pub castanhiu-flow-control-spec : {M : Type 1} → statement M
 castanhiu-flow-control-spec =

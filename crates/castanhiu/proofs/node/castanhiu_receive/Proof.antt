@@ -2,8 +2,7 @@
 use mathlib.Core.Path.{ap}
 use native.Mathlib.Omega.{arith}
 use borrow.Author.Needs.{needs}
-use Rattle.receiver.specs.Nodes.{withReception}
-use Rattle.receiver.proofs.LawsReceived.{stored-moved, place-moved}
+use Rattle.receiver.proofs.LawsReceived.{stored-fields, place-moved}
 use Rattle.castanhiu.specs.Numbers.{receivedTold}
 use Rattle.castanhiu.proofs.node.castanhiu_receive.Statement.{statement}
 use Rattle.castanhiu.proofs.node.castanhiu_receive.Tie as tie
@@ -19,11 +18,11 @@ element-set-from-reception c =
     place-moved _ _ _ _ _ (at-move-reception .move-reception .ensures .0)
 
 returns : tie.Need-returns
-unfolding withReception receivedTold
+unfolding receivedTold
 returns c =
     let at-move-reception = c .before .before .before .before in
     let entry = at-move-reception .before .before .before .before in
-    (rw (c .told .ensures) (ap receivedTold (stored-moved (entry .args .node) _ _ _ _ (at-move-reception .move-reception .ensures .0))), (at-move-reception .move-reception .ensures .1))
+    (rw (c .told .ensures) (ap receivedTold (stored-fields (entry .args .node) _ _ _ _ (at-move-reception .move-reception .ensures .0))), (at-move-reception .move-reception .ensures .1))
 
 pub castanhiu-receive-spec : {M : Type 1} → statement M
 castanhiu-receive-spec =

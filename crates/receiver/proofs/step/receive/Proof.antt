@@ -1,8 +1,7 @@
 -- `receive` meets its contract: the node with the moved reception stored.
 use native.Mathlib.Omega.{arith}
 use borrow.Author.Needs.{needs}
-use Rattle.receiver.specs.Nodes.{withReception}
-use Rattle.receiver.proofs.LawsReceived.{stored-moved, place-moved}
+use Rattle.receiver.proofs.LawsReceived.{stored-fields, place-moved}
 use Rattle.receiver.proofs.step.receive.Statement.{statement}
 use Rattle.receiver.proofs.step.receive.Tie as tie
 
@@ -17,11 +16,10 @@ element-set-from-reception c =
     place-moved _ _ _ _ _ (at-move-reception .move-reception .ensures .0)
 
 returns : tie.Need-returns
-unfolding withReception
 returns c =
     let at-move-reception = c .before .before .before in
     let entry = at-move-reception .before .before .before .before in
-    (stored-moved (entry .args .t1) _ _ _ _ (at-move-reception .move-reception .ensures .0), (at-move-reception .move-reception .ensures .1))
+    (stored-fields (entry .args .t1) _ _ _ _ (at-move-reception .move-reception .ensures .0), (at-move-reception .move-reception .ensures .1))
 
 pub receive-spec : {M : Type 1} → statement M
 receive-spec =
