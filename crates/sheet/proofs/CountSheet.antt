@@ -23,7 +23,8 @@ use Rattle.sheet.specs.declared.reading.Reading.{Reading}
 use Rattle.sheet.proofs.LawsFields.{position-range}
 use Rattle.sheet.proofs.LawsJudge.{accepted-short, judged-21}
 use Rattle.sheet.proofs.LawsEarliest.{Earliest, earliest-then-lowest, earliest-refused, refused-range}
-use Rattle.sheet.proofs.LawsReadings.{Bytes, accepted-whole, accepted-length, whole-accepted, whole-stands, whole-sound, stands-whole, stands-reading, length-sheet, sheet-stands, each-sound, listed}
+use Rattle.sheet.proofs.LawsReadings.{accepted-whole, accepted-length, whole-accepted}
+use Rattle.sheet.proofs.LawsStands.{Bytes, whole-stands, whole-sound, stands-whole, stands-reading, length-sheet, sheet-stands, each-sound, listed}
 use Rattle.sheet.proofs.LawsText.{decimal-says, hex-says, newlines-line, newlines-refusal, newlines-table}
 use Rattle.sheet.proofs.LawsPrinted.{printed-accepted, printed-refused, print-whole, print-rest}
 

@@ -4,6 +4,7 @@ pub mod LawsJudge
 pub mod LawsText
 pub mod LawsPrinted
 pub mod LawsReadings
+pub mod LawsStands
 pub mod LawsEarliest
 pub mod LawsBasis
 pub mod Worked
