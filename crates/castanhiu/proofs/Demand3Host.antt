@@ -8,7 +8,6 @@ use lib.Dec.{eqb}
 use Rattle.identifiers.proofs.LawsChoice.{pick-true, pick-false}
 use Rattle.readings.specs.declared.position.Position.{Position}
 use Rattle.receiver.specs.declared.step.Outcome.{Outcome}
-use Rattle.receiver.specs.Frames.{Frame}
 use Rattle.receiver.specs.Steps.{outcomeTold}
 use Rattle.receiver.specs.Shown.{toldMessage}
 use Rattle.trains.specs.Sequences.{Line, start, _▹_, size, Request, Reading}

@@ -1,18 +1,18 @@
--- Refusals 1 to 10 exactly where document 01 gives them: each number just where its own check fails and all before it hold.
-use mathlib.Core.Path.{_≡_, refl, sym, ap, _∙_}
+-- Refusals 2 to 10 of a frame by itself, and 12, 9, 13 and 14 of a consecutive frame, exactly where document 01 gives them: where its own check fails and all before it hold.
+use mathlib.Core.Path.{_≡_, refl, sym, ap, subst, _∙_}
 use mathlib.Core.Bool.{Bool, false}
 use mathlib.Core.List.{List}
 use mathlib.Core.Logic.{_≢_, _↔_}
 use Prim.Native.Nat.{ℕ, _+_, _*_, _/_, _%_, _≤_}
 use native.Mathlib.Omega.{arith}
-use borrow.Author.Tests.{ltb-false, eqb-false, le-ltb, lt-ltb, lt-leb, eq-eqb, ne-eqb}
+use borrow.Author.Tests.{ltb-true, ltb-false, eqb-true, eqb-false, le-ltb, lt-ltb, lt-leb, eq-eqb, ne-eqb}
 use lib.Dec.{eqb}
 use lib.ListN.{length, getD}
 use Rattle.identifiers.specs.Choice.{pick, both}
 use Rattle.identifiers.specs.Refusals.{refusal}
 use Rattle.identifiers.specs.Identifiers.{fieldsOf}
 use Rattle.identifiers.specs.declared.refusal.Refusal.{Refusal}
-use Rattle.identifiers.proofs.LawsChoice.{by-test, pick-true, pick-false, both-false, stop, right-decides}
+use Rattle.identifiers.proofs.LawsChoice.{Holds, by-test, pick-true, pick-false, both-false, stop, right-decides}
 use Rattle.identifiers.proofs.LawsIdentifiers.{frame-2, frame-3, frame-4}
 use Rattle.readings.specs.Positions.{placeOf, vehicleOf}
 use Rattle.readings.specs.declared.position.Position.{Position}
@@ -21,9 +21,18 @@ use Rattle.readings.specs.declared.position.Vehicle.the-variants.{At, NoVehicle
 use Rattle.readings.proofs.LawsPositions.{address-only, address-back}
 use Rattle.receiver.specs.declared.frame.Judged.{Judged}
 use Rattle.receiver.specs.declared.frame.Judged.the-variants.{Refused, Consecutive}
+use Rattle.receiver.specs.declared.reception.Reception.{Reception}
+use Rattle.receiver.specs.declared.step.Step.{Step}
+use Rattle.receiver.specs.declared.step.Outcome.{Outcome}
+use Rattle.receiver.specs.declared.step.Outcome.the-variants as outcome
+use Rattle.receiver.specs.Receptions.{closed}
+use Rattle.receiver.specs.Steps.{kept, shut, doneOf, leftOf, takenStep, followed}
 use Rattle.receiver.specs.Frames.{firstLength, firstOf, singleOf, kindOf, unitIs, diagnostic, addressedFrom, addressedOf, judgedRead, judgedOf}
-use Rattle.receiver.specs.Names.{NotDiagnostic, other-page, other-format, NoOtherVehicle, no-vehicle, own-address, OtherUnit, no-unit, another, Malformed, no-second, single-of-none, single-over-six, single-short, functional-not-single, first-short, first-under-seven, no-kind, Names, names-2, names-3, names-4, names-5, names-6, names-7, names-8, names-9, names-10}
+use Rattle.receiver.specs.Names.{NotDiagnostic, other-page, other-format, NoOtherVehicle, no-vehicle, own-address, OtherUnit, no-unit, another, Malformed, no-second, single-of-none, single-over-six, single-short, functional-not-single, first-short, first-under-seven, no-kind, Names, names-2, names-3, names-4, names-5, names-6, names-7, names-8, names-9, names-10, NamesNext, names-12, names-short, names-13, names-14}
 use Rattle.receiver.proofs.LawsFrames.{fair, judged-read, judged-from, judged-other, judged-kind}
+
+abbrev told : Step → Outcome
+told s = s .outcome
 
 abbrev Nine : Judged → Type 0
 Nine j = j ≡ Refused (refusal 9)
@@ -114,3 +123,39 @@ module _ (own : Position) (unit n : ℕ) (bytes : List ℕ) where
   -- "Lowest first": a frame is refused with this number exactly where it names the frame
   pub refused-exactly : (why : Refusal) → judgedOf own unit n bytes ≡ Refused why ↔ Names own unit n bytes why
   refused-exactly why = (fair own unit n bytes _, named-so)
+
+-- ---- a physical consecutive frame, by its vehicle's reception
+module _ (r : Reception) (from : Position) (number count stamp : ℕ) where
+  -- what a step says where it refuses
+  abbrev Named : Step → Type 0
+  Named s = (why : Refusal) → s .outcome ≡ outcome.Refused why → NamesNext r number count stamp why
+
+  refuses : (x : Reception) (why : Refusal) → NamesNext r number count stamp why → Holds Named (kept x (outcome.Refused why))
+  unfolding kept
+  refuses x why n = record { holds = λ other (e : outcome.Refused why ≡ outcome.Refused other). subst (NamesNext r number count stamp) (cc) n }
+
+  takes : Holds Named (takenStep r from stamp)
+  unfolding takenStep
+  takes =
+      by-test _ (λ a. record { holds = λ why (e : outcome.Taken from ≡ outcome.Refused why). let z : _≡_ {A = ℕ} 0 1 = cc in absurd (omega arith) })
+      (λ a. record { holds = λ why (e : outcome.Train from (r .length) ≡ outcome.Refused why). let z : _≡_ {A = ℕ} 0 1 = cc in absurd (omega arith) })
+
+  named-next : Holds Named (followed r from number count stamp)
+  unfolding followed shut leftOf doneOf
+  named-next =
+      by-test _ (λ a. refuses r (refusal 12) (names-12 (eqb-true _ _ a)))
+      (λ a. by-test _ (λ b. refuses r (refusal 9) (names-short (eqb-false _ _ a) (ltb-true _ _ b)))
+      (λ b. by-test _
+      (λ c. by-test _ (λ d. refuses closed (refusal 14) (names-14 (eqb-false _ _ a) (ltb-false _ _ b) (eqb-true _ _ c) (ltb-true _ _ d))) (λ d. takes))
+      (λ c. refuses closed (refusal 13) (names-13 (eqb-false _ _ a) (ltb-false _ _ b) (eqb-false _ _ c)))))
+
+  next-so : {why : Refusal} → NamesNext r number count stamp why → followed r from number count stamp .outcome ≡ outcome.Refused why
+  unfolding followed shut kept leftOf doneOf
+  next-so (names-12 a) = ap told (pick-true _ _ (eq-eqb _ _ a))
+  next-so (names-short a b) = ap told (pick-false _ _ (ne-eqb _ _ a) ∙ pick-true _ _ (lt-ltb _ _ b))
+  next-so (names-13 a b c) = ap told (pick-false _ _ (ne-eqb _ _ a) ∙ pick-false _ _ (le-ltb _ _ b) ∙ pick-false _ _ (ne-eqb _ _ c))
+  next-so (names-14 a b c d) = ap told (pick-false _ _ (ne-eqb _ _ a) ∙ pick-false _ _ (le-ltb _ _ b) ∙ pick-true _ _ (eq-eqb _ _ c) ∙ pick-true _ _ (lt-ltb _ _ d))
+
+  -- 12, then 9, 13 and 14, each exactly where it is due
+  pub followed-exactly : (why : Refusal) → followed r from number count stamp .outcome ≡ outcome.Refused why ↔ NamesNext r number count stamp why
+  followed-exactly why = (named-next .holds why, next-so)

@@ -13,7 +13,7 @@ use Rattle.identifiers.specs.declared.refusal.Refusal.{Refusal}
 use Rattle.identifiers.proofs.LawsChoice.{Holds, by-test, pick-true, pick-false, right-decides}
 use Rattle.identifiers.proofs.LawsBytes.{written-none}
 use Rattle.identifiers.proofs.LawsIdentifiers.{source-is}
-use Rattle.readings.specs.Positions.{placeOf, addressOf, vehicleOf}
+use Rattle.readings.specs.Positions.{placeOf, vehicleOf}
 use Rattle.readings.specs.declared.position.Position.{Position}
 use Rattle.readings.specs.declared.position.Vehicle.{Vehicle}
 use Rattle.readings.specs.declared.position.Vehicle.the-variants.{At, NoVehicle}
@@ -29,7 +29,7 @@ use Rattle.receiver.specs.Receptions.{closed}
 use Rattle.receiver.specs.Nodes.{receptionAt, withReception}
 use Rattle.receiver.specs.Frames.{judgedOf}
 use Rattle.receiver.specs.Steps.{kept, shut, opened, takenStep, followed, stepOf, judgedPlace, stepBy, ownOf, receivedBy, receivedAt, receivedOf, writtenBy, bufferAt, bufferAfter, nothingTold, outcomeTold}
-use Rattle.receiver.specs.Changes.{closes, Does, Changes, ClosedFor, Leaves}
+use Rattle.receiver.specs.Changes.{closes, Does, Changes, Leaves}
 use Rattle.receiver.specs.Wire.{Addressed}
 use Rattle.receiver.proofs.LawsNodes.{put-back}
 use Rattle.receiver.proofs.LawsFrames.{fair, refused-number}

@@ -3,8 +3,8 @@ pub mod Receptions
 pub mod Nodes
 pub mod Frames
 pub mod Wire
-pub mod Names
 pub mod Steps
+pub mod Names
 pub mod Shown
 pub mod Cuts
 pub mod Changes

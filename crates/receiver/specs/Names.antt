@@ -1,9 +1,9 @@
--- Where refusals 1 to 10 are due, by the node, the identifier and the bytes: each says that its own check fails and that all before it hold (document 01, "Refusal numbers").
+-- Where refusals 1 to 10 and 12 to 14 are due, by the node, the identifier and the bytes: each says that its own check fails and that all before it hold (document 01, "Refusal numbers").
 use mathlib.Core.Path.{_≡_}
 use mathlib.Core.Bool.{Bool, true, false}
 use mathlib.Core.List.{List}
 use mathlib.Core.Logic.{_≢_}
-use Prim.Native.Nat.{ℕ, _+_, _*_, _/_, _%_, _^_, _≤_, _<_}
+use Prim.Native.Nat.{ℕ, _+_, _-_, _*_, _/_, _%_, _^_, _≤_, _<_, min}
 use lib.ListN.{length, getD}
 use Rattle.identifiers.specs.Choice.{pick}
 use Rattle.identifiers.specs.Refusals.{refusal}
@@ -14,6 +14,7 @@ use Rattle.readings.specs.declared.position.Position.{Position}
 use Rattle.receiver.specs.declared.reception.Reception.{Reception}
 use Rattle.receiver.specs.declared.node.Node.{Node}
 use Rattle.receiver.specs.Nodes.{receptionAt}
+use Rattle.receiver.specs.Steps.{gapOf}
 use Rattle.receiver.specs.Wire.{Addressed}
 
 -- checks 2, 3 and 4 hold
@@ -80,6 +81,13 @@ pub data Names (own : Position) (unit n : ℕ) (bytes : List ℕ) : Refusal → 
   names-9 : {p : Position} {functional : Bool} → Addressed own unit n bytes p functional → Malformed functional bytes → Names own unit n bytes (refusal 9)
   -- 10 "physical flow control"
   names-10 : {p : Position} → Addressed own unit n bytes p false → 2 ≤ length bytes → getD bytes 1 0 / 16 ≡ 3 → Names own unit n bytes (refusal 10)
+
+-- the refusals of a physical consecutive frame, by its vehicle's reception: "12 goes before a physical consecutive frame's 9", then 13 and 14
+pub data NamesNext (r : Reception) (number count stamp : ℕ) : Refusal → Type 0 where
+  names-12 : r .length ≡ 0 → NamesNext r number count stamp (refusal 12)
+  names-short : r .length ≢ 0 → count < 2 + min 6 (r .length - (5 + 6 * r .taken)) → NamesNext r number count stamp (refusal 9)
+  names-13 : r .length ≢ 0 → 2 + min 6 (r .length - (5 + 6 * r .taken)) ≤ count → number ≢ (r .taken + 1) % 16 → NamesNext r number count stamp (refusal 13)
+  names-14 : r .length ≢ 0 → 2 + min 6 (r .length - (5 + 6 * r .taken)) ≤ count → number ≡ (r .taken + 1) % 16 → 150 < gapOf stamp (r .last) → NamesNext r number count stamp (refusal 14)
 
 -- a reception that breaks its rules: "closed", all its numbers 0, "or open with L 7..255, the frames k taken (5 + 6k below L)"
 pub data BrokenReception (r : Reception) : Type 0 where

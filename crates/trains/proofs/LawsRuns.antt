@@ -12,7 +12,7 @@ use Rattle.receiver.specs.Frames.{Frame}
 use Rattle.receiver.specs.Steps.{nothingTold, outcomeTold}
 use Rattle.receiver.specs.Shown.{toldMessage}
 use Rattle.receiver.proofs.LawsShown.{told-shown}
-use Rattle.trains.specs.Sequences.{Line, start, _▹_, size, Request}
+use Rattle.trains.specs.Sequences.{Line, start, _▹_, size}
 use Rattle.trains.specs.Runs.{Held, answer, next, offered, handed, handedAt, requests}
 
 module _ (x : Held) where
