@@ -21,6 +21,7 @@ use Rattle.receiver.specs.Cuts.{framesOf, noFrame, cutTold, pieceOf, bet
 use Rattle.receiver.proofs.LawsPieces.{frames-none, none-else, between-first, between-second}
 use Rattle.receiver.proofs.LawsOnWire.{headed-done}
 
+-- where there is no frame, the answer says so
 pub none-16 : noFrame .answer ≡ Refused (refusal 16)
 unfolding noFrame
 none-16 = refl

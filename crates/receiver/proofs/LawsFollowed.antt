@@ -11,10 +11,18 @@ use Rattle.identifiers.specs.Choice.{pick}
 use Rattle.identifiers.specs.Refusals.{refusal}
 use Rattle.identifiers.proofs.LawsChoice.{pick-true, pick-false}
 use Rattle.readings.specs.declared.position.Position.{Position}
+use Rattle.receiver.specs.declared.reception.Reception.{Reception}
+use Rattle.receiver.specs.declared.frame.Judged.the-variants.{Consecutive}
 use Rattle.receiver.specs.declared.step.Outcome.the-variants.{Refused, Taken, Train}
 use Rattle.receiver.specs.Receptions.{closed, openWith}
-use Rattle.receiver.specs.Steps.{gapOf, regionAt, kept, shut, doneOf, leftOf, takenStep, followed}
+use Rattle.receiver.specs.Steps.{gapOf, regionAt, kept, shut, doneOf, leftOf, takenStep, followed, stepOf}
 
+-- of any reception
+pub consecutive-step : (r : Reception) (from : Position) (number count stamp : ℕ) → stepOf r (Consecutive from number) count stamp ≡ followed r from number count stamp
+unfolding stepOf
+consecutive-step r from number count stamp = refl
+
+-- 12 "consecutive, nothing open"
 pub nothing-open : (from : Position) (number count stamp : ℕ) → followed closed from number count stamp ≡ kept closed (Refused (refusal 12))
 unfolding followed pick
 nothing-open from number count stamp = refl
@@ -57,7 +65,7 @@ module _ (L k t : ℕ) (from : Position) (number count stamp : ℕ) (is-open : L
         unfolding takenStep leftOf doneOf
         followed-last h = followed-taken ∙ pick-false _ _ (le-ltb _ _ h)
 
--- a stamp's gap from itself
+-- "the gap is later minus earlier modulo 2^32": none from a stamp to itself
 pub gap-same : (stamp : ℕ) → stamp < 2 ^ 32 → gapOf stamp stamp ≡ 0
 unfolding gapOf
 gap-same stamp h = let e : stamp + (2 ^ 32 - stamp) ≡ 2 ^ 32 = omega arith in rw e

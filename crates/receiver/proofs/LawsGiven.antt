@@ -1,4 +1,4 @@
--- What a step gives, by the frame that is judged: the vehicle's reception, the outcome, and the buffer afterwards; and what is then shown.
+-- What a step gives, by the judged frame: the vehicle's reception, the outcome, and the buffer afterwards; and what is then shown.
 use mathlib.Core.Path.{_≡_, refl}
 use mathlib.Core.Bool.{Bool, true, false}
 use mathlib.Core.List.{List}
@@ -14,7 +14,7 @@ use Rattle.receiver.specs.declared.step.Step.{Step}
 use Rattle.receiver.specs.declared.step.Outcome.{Outcome}
 use Rattle.receiver.specs.declared.step.Outcome.the-variants.{Refused, OverLong, Opened, Single, Train}
 use Rattle.receiver.specs.Receptions.{closed, openWith}
-use Rattle.receiver.specs.Steps.{regionAt, kept, shut, opened, followed, stepOf, writtenBy}
+use Rattle.receiver.specs.Steps.{regionAt, kept, shut, opened, stepOf, writtenBy}
 use Rattle.receiver.specs.Shown.{shownOf}
 use Rattle.receiver.proofs.LawsSteps.{kept-writes}
 
@@ -66,16 +66,12 @@ module _ (buffer bytes : List ℕ) where
       unfolding stepOf opened
       first-gives L = stores-gives (openWith L 0 stamp) (regionAt from) 3 5 (Opened from)
 
-      -- a consecutive frame goes by the rungs of LawsFollowed
-      pub consecutive-step : (number : ℕ) → stepOf r (judged.Consecutive from number) count stamp ≡ followed r from number count stamp
-      unfolding stepOf
-      consecutive-step number = refl
-
-  -- "The shown message is a part of the frame's own data or of the reception buffer"
-  pub shown-single : (from : Position) (functional : Bool) (L : ℕ) → shownOf bytes buffer (Single from functional L) ≡ take L (drop 2 bytes)
+-- "The shown message is a part of the frame's own data or of the reception buffer"
+module _ (bytes buffer : List ℕ) (from : Position) where
+  pub shown-single : (functional : Bool) (L : ℕ) → shownOf bytes buffer (Single from functional L) ≡ take L (drop 2 bytes)
   unfolding shownOf
-  shown-single from functional L = refl
+  shown-single functional L = refl
 
-  pub shown-train : (from : Position) (L : ℕ) → shownOf bytes buffer (Train from L) ≡ take L (drop (regionAt from) buffer)
+  pub shown-train : (L : ℕ) → shownOf bytes buffer (Train from L) ≡ take L (drop (regionAt from) buffer)
   unfolding shownOf
-  shown-train from L = refl
+  shown-train L = refl

@@ -61,6 +61,7 @@ set-cases P (a ∷ l) zero (suc j) r d x y = y
 set-cases P (a ∷ l) (suc p) zero r d x y = y
 set-cases P (a ∷ l) (suc p) (suc j) r d x y = set-cases P l p j r d x y
 
+-- a node keeps them with a reception stored that does, and so does a fresh one at any position 1 to 5
 pub sound-with : (n : Node) (p : ℕ) (r : Reception) → soundReception r ≡ true → soundNode n ≡ true → soundNode (withReception n p r) ≡ true
 unfolding soundNode withReception receptionAt
 sound-with n p r g h =

@@ -27,7 +27,7 @@ use Rattle.receiver.specs.Steps.{regionAt, kept, shut, opened, doneOf, l
 use Rattle.receiver.proofs.LawsFrames.{Fair, fair}
 use Rattle.receiver.proofs.LawsRules.{sound-closed, sound-open, open-facts, sound-at, sound-with}
 
--- a vehicle's part of the buffer lies in it
+-- "The buffer has 1,536 bytes: position p owns bytes 256p to 256p+254"
 pub region-fits : (p : Position) → regionAt p + 255 ≤ 1536
 unfolding regionAt
 region-fits p = omega (arith, place-below p)

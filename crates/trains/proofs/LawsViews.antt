@@ -24,9 +24,9 @@ use Rattle.receiver.specs.Steps.{regionAt, shut, followed, stepOf, writtenBy}
 use Rattle.trains.specs.Sequences.{Line, _▹_, size, physicalOf, due, Request, seen, elsewhere, too-short, Next, Underway, begins, passes, goes-on, Complete, Stands, single, train}
 use Rattle.trains.specs.Runs.{handed}
 use Rattle.receiver.proofs.LawsFrames.{fair}
-use Rattle.receiver.proofs.LawsFollowed.{nothing-open, followed-short, followed-wrong, followed-late, followed-on, followed-last}
+use Rattle.receiver.proofs.LawsFollowed.{consecutive-step, nothing-open, followed-short, followed-wrong, followed-late, followed-on, followed-last}
 use Rattle.receiver.proofs.LawsSteps.{region-fits}
-use Rattle.receiver.proofs.LawsGiven.{Gives, kept-gives, shut-gives, stores-gives, physical-gives, over-long-gives, first-gives, consecutive-step, shown-single, shown-train}
+use Rattle.receiver.proofs.LawsGiven.{Gives, kept-gives, shut-gives, stores-gives, physical-gives, over-long-gives, first-gives, shown-single, shown-train}
 use Rattle.trains.specs.Terms.{Rests, Ends, by-single, by-first, by-over-long, by-number, by-lateness, Fate, passed-over, taken, completes, ended, Follows}
 use Rattle.trains.proofs.LawsSequences.{grown, bounded}
 use Rattle.trains.proofs.LawsFates.{Mine, a-single, a-first, an-over-long, a-consecutive, fate, rests-on, follows}
@@ -61,7 +61,7 @@ module _ (own : Position) (unit : ℕ) where
       → Verdict h f (handed (size h) (outcome.Single p functional L) (f .bytes) after)
   unfolding handed
   single-out {p} {functional} {L} {h} {f} after is =
-      one (ap (λ (m : List ℕ). record { at = size h; from = p; functional = functional; bytes = m } ∷ []) (shown-single after (f .bytes) p functional L)) (single is refl)
+      one (ap (λ (m : List ℕ). record { at = size h; from = p; functional = functional; bytes = m } ∷ []) (shown-single (f .bytes) after p functional L)) (single is refl)
 
   -- ---- frames with which no request ends
   abbrev Silent : Judged → Type 0
@@ -173,7 +173,7 @@ module _ (own : Position) (unit : ℕ) where
           let y = follows w (completes x l) in
           subst (Advances p h f buffer) (sym (followed-last L k t p n (length (f .bytes)) (f .stamp) is-open (omega arith) o (x .in-time) (omega arith)))
           (advances-by (stores-gives buffer (f .bytes) _ _ _ _ _) (resting refl (y .1))
-          (one (ap (λ (m : List ℕ). record { at = size h; from = p; functional = false; bytes = m } ∷ []) (shown-train (behind (L - (5 + 6 * k))) (f .bytes) p L ∙ e)) (train refl (y .0))))
+          (one (ap (λ (m : List ℕ). record { at = size h; from = p; functional = false; bytes = m } ∷ []) (shown-train (f .bytes) (behind (L - (5 + 6 * k))) p L ∙ e)) (train refl (y .0))))
 
       advance-train : Fate own unit p L k t b f → Advances p h f buffer step
       unfolding physicalOf
@@ -215,4 +215,4 @@ module _ (own : Position) (unit : ℕ) where
         advances-by (over-long-gives buffer (f .bytes) r (length (f .bytes)) (f .stamp) p)
         (resting refl (rests-ended v (λ M (d : seen own unit f ≡ First p M). let z : _≡_ {A = ℕ} 0 1 = cc in omega arith) (λ L k t b. by-over-long is))) (nothing refl (none-stands (OverLong p) tt is))
     advance-mine _ is (a-consecutive {n}) v =
-        subst (Advances p h f buffer) (sym (consecutive-step buffer (f .bytes) r (length (f .bytes)) (f .stamp) p n)) (advance-consecutive n is v)
+        subst (Advances p h f buffer) (sym (consecutive-step r p n (length (f .bytes)) (f .stamp))) (advance-consecutive n is v)
