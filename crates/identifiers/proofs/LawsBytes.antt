@@ -1,4 +1,4 @@
--- Laws of bytes put into a buffer: the first run, then the next one; a loop that copies; a loop that puts f 0, f 1, ..
+-- Laws of bytes put into a buffer: what stands there, before and behind; the first run, then the next one; a loop that copies; a loop that puts f 0, f 1, ..
 use mathlib.Core.Path.{_≡_, refl, sym, ap, ap₂, _∙_}
 use mathlib.Core.List.{List, [], _∷_, _++_, append-nil, append-assoc}
 use Prim.Native.Nat.{ℕ, _+_, _≤_, _<_}

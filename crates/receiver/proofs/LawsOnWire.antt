@@ -29,6 +29,7 @@ use Rattle.receiver.proofs.LawsPieces.{frames-one, frames-many, between
 
 -- ---- a frame from one position to another
 module _ (sender receiver : Position) where
+  -- its identifier
   abbrev pub identifierTo : ℕ
   identifierTo = formula 0 (physicalTo sender receiver)
 
@@ -50,16 +51,18 @@ module _ (sender receiver : Position) where
       ap (λ (c : FrameCut). onWire c stamp) (framed-is (length (head ++ bytes)) (written (replicate 8 0) 0 (head ++ bytes)))
       ∙ ap (λ (l : List ℕ). record { identifier = identifierTo; bytes = l; stamp = stamp }) (rw l at (take-written (replicate 8 0) 0 all (omega arith)))
 
+  -- it is no refusal
   pub headed-done : (head bytes : List ℕ) → headed sender receiver head bytes .answer ≡ Done
   unfolding headed
   headed-done head bytes = ap (λ (c : FrameCut). c .answer) (framed-is (length (head ++ bytes)) (written (replicate 8 0) 0 (head ++ bytes)))
 
 -- ---- a frame of a message from one position to another
 module _ (sender receiver : Position) (unit : ℕ) (m : List ℕ) (other : placeOf sender ≢ placeOf receiver) where
+  -- frame k of the message, sent at a stamp
   abbrev cutWire : ℕ → ℕ → Frame
   cutWire k stamp = onWire (cutOf m k (placeOf sender) (placeOf receiver) unit) stamp
 
-  -- on the wire: the unit, and these bytes
+  -- a frame of the unit and these bytes
   abbrev wire : List ℕ → ℕ → Frame
   wire rest stamp = record { identifier = identifierTo sender receiver; bytes = unit ∷ rest; stamp = stamp }
 

@@ -1,4 +1,4 @@
--- What the cutter's functions go by: where a frame of a message starts, what its data are, and between which positions.
+-- What the cutter's functions go by: how many frames a message has, where one starts, what its data are, and between which positions.
 use mathlib.Core.Path.{_≡_, refl, sym, ap, ap₂, _∙_}
 use mathlib.Core.Bool.{Bool, true, false}
 use mathlib.Core.List.{List, [], _∷_}
@@ -19,6 +19,7 @@ use Rattle.receiver.specs.declared.cutter.FrameCut.{FrameCut}
 use Rattle.receiver.specs.Cuts.{framesOf, noFrame, framed, headed, between}
 
 -- ---- how many frames
+-- none for 0 or over 255 bytes, one up to 6, else a first frame and ceiling((L-5)/6) more
 pub frames-none : (L : ℕ) → either (eqb L 0) (ltb 255 L) ≡ true → framesOf L ≡ 0
 unfolding framesOf
 frames-none L h = pick-true _ _ h
