@@ -29,7 +29,8 @@ use Rattle.receiver.specs.Receptions.{closed}
 use Rattle.receiver.specs.Steps.{kept, shut, doneOf, leftOf, takenStep, followed}
 use Rattle.receiver.specs.Frames.{firstLength, firstOf, singleOf, kindOf, unitIs, diagnostic, addressedFrom, addressedOf, judgedRead, judgedOf}
 use Rattle.receiver.specs.Names.{NotDiagnostic, other-page, other-format, NoOtherVehicle, no-vehicle, own-address, OtherUnit, no-unit, another, Malformed, no-second, single-of-none, single-over-six, single-short, functional-not-single, first-short, first-under-seven, no-kind, Names, names-2, names-3, names-4, names-5, names-6, names-7, names-8, names-9, names-10, NamesNext, names-12, names-short, names-13, names-14}
-use Rattle.receiver.proofs.LawsFrames.{fair, judged-read, judged-from, judged-other, judged-kind}
+use Rattle.receiver.proofs.LawsFrames.{fair}
+use Rattle.receiver.proofs.LawsKinds.{judged-read, judged-from, judged-other, judged-kind}
 
 abbrev told : Step → Outcome
 told s = s .outcome

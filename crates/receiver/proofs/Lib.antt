@@ -5,6 +5,7 @@ pub mod LawsPieces
 pub mod LawsOnWire
 pub mod LawsCutter
 pub mod LawsFrames
+pub mod LawsKinds
 pub mod LawsRungs
 pub mod LawsBroken
 pub mod LawsFollowed

@@ -26,7 +26,7 @@ use Rattle.trains.specs.Terms.{Within, same, later, only, fromAddress, o
 use Rattle.receiver.proofs.LawsNodes.{made-fresh, start-fresh}
 use Rattle.receiver.proofs.LawsFollowed.{gap-same}
 use Rattle.receiver.proofs.LawsCutter.{none-16, cut-16, only-16}
-use Rattle.receiver.proofs.LawsFrames.{single-is, first-is, over-long-is, consecutive-is}
+use Rattle.receiver.proofs.LawsKinds.{single-is, first-is, over-long-is, consecutive-is}
 use Rattle.trains.proofs.LawsSequences.{same-train, one-request, readings-agree, once}
 use Rattle.trains.proofs.LawsFates.{fate, follows, elsewhere-is}
 use Rattle.trains.proofs.LawsViews.{Verdict, nothing, one}

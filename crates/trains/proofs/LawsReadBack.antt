@@ -13,7 +13,7 @@ use Rattle.receiver.specs.declared.frame.Judged.{Judged}
 use Rattle.receiver.specs.declared.frame.Judged.the-variants.{Single, First, Consecutive}
 use Rattle.receiver.specs.Frames.{Frame, judgedOf}
 use Rattle.receiver.specs.Cuts.{framesOf}
-use Rattle.receiver.proofs.LawsFrames.{single-is, first-is, consecutive-is}
+use Rattle.receiver.proofs.LawsKinds.{single-is, first-is, consecutive-is}
 use Rattle.receiver.proofs.LawsOnWire.{identifierTo, single-wire, first-wire, consecutive-wire, cut-addressed}
 use Rattle.trains.specs.Sequences.{seen}
 use Rattle.trains.specs.Terms.{cutFrame}

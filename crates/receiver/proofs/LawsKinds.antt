@@ -1,0 +1,116 @@
+-- Each kind of frame by its identifier and its bytes, both ways: what checks 2 to 10 let through is just what document 01 describes.
+use mathlib.Core.Path.{_≡_, refl, sym, ap, _∙_}
+use mathlib.Core.Bool.{Bool, true, false}
+use mathlib.Core.List.{List}
+use mathlib.Core.Logic.{_≢_, _↔_}
+use Prim.Native.Nat.{ℕ, suc, _+_, _*_, _/_, _%_, _≤_}
+use native.Mathlib.Omega.{arith}
+use borrow.Author.Tests.{lt-ltb, le-ltb, le-leb, eq-eqb, ne-eqb}
+use lib.Dec.{eqb}
+use lib.ListN.{length, getD}
+use Rattle.identifiers.specs.Choice.{pick, both, either}
+use Rattle.identifiers.specs.Refusals.{refusal}
+use Rattle.identifiers.specs.Identifiers.{fieldsOf}
+use Rattle.identifiers.proofs.LawsChoice.{pick-true, pick-false, so}
+use Rattle.identifiers.proofs.LawsIdentifiers.{frame-fields}
+use Rattle.readings.specs.Positions.{vehicleOf}
+use Rattle.readings.specs.declared.position.Position.{Position}
+use Rattle.readings.proofs.LawsPositions.{address-back}
+use Rattle.receiver.specs.declared.frame.Judged.the-variants.{Refused, Single, First, OverLong, Consecutive}
+use Rattle.receiver.specs.Frames.{singleOf, firstLength, firstOf, kindOf, unitIs, diagnostic, destinationOf, addressedFrom, addressedOf, judgedRead, judgedOf}
+use Rattle.receiver.specs.Wire.{Addressed, IsSingle, IsFirst, IsOverLong, IsConsecutive}
+use Rattle.receiver.specs.Names.{Readable, Diagnostic, FromOther, destinedTo}
+use Rattle.receiver.proofs.LawsFrames.{fair}
+
+module _ (own : Position) (unit n : ℕ) (bytes : List ℕ) where
+  -- ---- and the other way round
+  is-205 : (f : Bool) → fieldsOf n .format ≡ pick f 205 206 → eqb (fieldsOf n .format) 205 ≡ f
+  unfolding pick
+  is-205 true e = eq-eqb _ _ e
+  is-205 false e = rw e
+
+  is-diagnostic : (f : Bool) → fieldsOf n .«data_page» ≡ 0 → fieldsOf n .format ≡ pick f 205 206 → diagnostic (fieldsOf n) ≡ true
+  unfolding diagnostic both either pick
+  is-diagnostic true z e = rw (z, e)
+  is-diagnostic false z e = rw (z, e)
+
+  pub judged-read : Readable n bytes → judgedOf own unit n bytes ≡ addressedOf own unit (fieldsOf n) bytes
+  unfolding judgedOf judgedRead
+  judged-read r = ap (judgedRead own unit bytes) (frame-fields n (length bytes) (r .range) (r .count) (r .reserved))
+
+  pub judged-from : {functional : Bool} → Diagnostic n bytes functional → judgedOf own unit n bytes ≡ addressedFrom own unit (fieldsOf n) bytes (vehicleOf (fieldsOf n .source))
+  unfolding addressedOf
+  judged-from {functional} d = judged-read (d .readable) ∙ pick-true _ _ (is-diagnostic functional (d .page) (d .format))
+
+  pub judged-other : {p : Position} {functional : Bool} → FromOther own n bytes p functional
+      → judgedOf own unit n bytes ≡ pick (eqb (fieldsOf n .specific) (destinedTo own functional)) (pick (unitIs unit bytes) (kindOf p functional bytes) (Refused (refusal 8))) (Refused (refusal 7))
+  unfolding addressedFrom destinationOf
+  judged-other {p} {functional} x =
+      judged-from (x .diagnostic)
+      ∙ ap (addressedFrom own unit (fieldsOf n) bytes) (ap vehicleOf (x .source) ∙ address-back p)
+      ∙ rw (is-205 functional (x .diagnostic .format)) (pick-false _ _ (ne-eqb _ _ (x .other)))
+
+  pub judged-kind : (p : Position) (functional : Bool) → Addressed own unit n bytes p functional → judgedOf own unit n bytes ≡ kindOf p functional bytes
+  unfolding unitIs
+  judged-kind p functional a =
+      judged-other (record { diagnostic = record { readable = record { range = a .range; count = a .count; reserved = a .reserved }; page = a .page; format = a .format }; source = a .source; other = a .other })
+      ∙ pick-true _ _ (eq-eqb _ _ (a .specific))
+      ∙ pick-true _ _ (sym (so (le-leb _ _ (a .own-unit .0)) (sym (eq-eqb _ _ (a .own-unit .1)))))
+
+  -- ---- each kind, by its identifier and its bytes
+  pub single-is : (p : Position) (functional : Bool) (L : ℕ) → judgedOf own unit n bytes ≡ Single p functional L ↔ (Addressed own unit n bytes p functional × IsSingle bytes L)
+  unfolding kindOf singleOf
+  single-is p functional L = (
+    fair own unit n bytes _,
+    λ (x : Addressed own unit n bytes p functional × IsSingle bytes L).
+        let k = x .1 in
+        let some : L ≢ 0 = λ (e : L ≡ 0). omega (arith, k .least) in
+        let r = k .room in
+        judged-kind p functional (x .0)
+        ∙ pick-false _ _ (le-ltb (length bytes) 2 (omega arith))
+        ∙ pick-true _ _ (eq-eqb _ _ (k .high))
+        ∙ ap (λ (i : ℕ). singleOf p functional i (length bytes)) (k .low)
+        ∙ pick-false _ _ (ne-eqb _ _ some)
+        ∙ pick-false _ _ (le-ltb _ _ (k .most))
+        ∙ pick-false _ _ (le-ltb _ _ (k .room)),
+  )
+
+  -- a physical frame whose high half is not 0
+  not-single : (p : Position) (high : ℕ) → Addressed own unit n bytes p false → 2 ≤ length bytes → getD bytes 1 0 / 16 ≡ suc high
+      → judgedOf own unit n bytes ≡ pick (eqb (suc high) 1) (firstOf p bytes) (pick (eqb (suc high) 2) (Consecutive p (getD bytes 1 0 % 16)) (pick (eqb (suc high) 3) (Refused (refusal 10)) (Refused (refusal 9))))
+  unfolding kindOf
+  not-single p high a r e =
+      let z : suc high ≢ 0 = λ (d : suc high ≡ 0). omega arith in
+      judged-kind p false a ∙ pick-false _ _ (le-ltb (length bytes) 2 r) ∙ rw e (pick-false _ _ (ne-eqb (suc high) 0 z) ∙ pick-false _ _ refl)
+
+  pub first-is : (p : Position) (L : ℕ) → judgedOf own unit n bytes ≡ First p L ↔ (Addressed own unit n bytes p false × IsFirst bytes L)
+  unfolding firstOf firstLength
+  first-is p L = (
+    fair own unit n bytes _,
+    λ (x : Addressed own unit n bytes p false × IsFirst bytes L).
+        let k = x .1 in
+        let r = k .room in
+        not-single p 0 (x .0) (omega arith) (k .high)
+        ∙ pick-true _ _ refl
+        ∙ pick-false _ _ (le-ltb _ _ r)
+        ∙ rw (k .named) (pick-false _ _ (le-ltb _ _ (k .least)) ∙ pick-false _ _ (le-ltb _ _ (k .most))),
+  )
+
+  pub over-long-is : (p : Position) → judgedOf own unit n bytes ≡ OverLong p ↔ (Addressed own unit n bytes p false × IsOverLong bytes)
+  unfolding firstOf firstLength
+  over-long-is p = (
+    fair own unit n bytes _,
+    λ (x : Addressed own unit n bytes p false × IsOverLong bytes).
+        let k = x .1 in
+        let r = k .room in
+        let o = k .over in
+        let l : 7 ≤ getD bytes 1 0 % 16 * 256 + getD bytes 2 0 = omega arith in
+        not-single p 0 (x .0) (omega arith) (k .high) ∙ pick-true _ _ refl ∙ pick-false _ _ (le-ltb _ _ r) ∙ pick-false _ _ (le-ltb _ _ l) ∙ pick-true _ _ (lt-ltb _ _ o),
+  )
+
+  pub consecutive-is : (p : Position) (number : ℕ) → judgedOf own unit n bytes ≡ Consecutive p number ↔ (Addressed own unit n bytes p false × IsConsecutive bytes number)
+  consecutive-is p number = (
+    fair own unit n bytes _,
+    λ (x : Addressed own unit n bytes p false × IsConsecutive bytes number).
+        let k = x .1 in not-single p 1 (x .0) (k .room) (k .high) ∙ pick-false _ _ refl ∙ pick-true _ _ refl ∙ ap (Consecutive p) (k .low),
+  )
