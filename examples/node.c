@@ -72,8 +72,9 @@ static void told(vehicle *tester, castanhiu_frame frame, uint32_t stamp)
         printf(i < frame.length ? "%02X " : "   ", frame.data[i]);
     }
     if (outcome.refusal != 0) {
-        printf(" refusal %u\n", outcome.refusal);
-    } else if (outcome.control != CASTANHIU_NO_CONTROL) {
+        printf(" refusal %u", outcome.refusal);
+    }
+    if (outcome.control != CASTANHIU_NO_CONTROL) { /* also at CASTANHIU_OVER_LONG: overflow */
         const castanhiu_frame due = castanhiu_flow_control(outcome.control, tester->node.own, outcome.from, UNIT);
         printf(" control due: ");
         print_bytes(due.data, due.length);
@@ -81,7 +82,7 @@ static void told(vehicle *tester, castanhiu_frame frame, uint32_t stamp)
         printf(" %u bytes of position %u, at %u in the buffer:\n           ", outcome.length, outcome.from, outcome.start);
         print_bytes(message, outcome.length);
     } else {
-        printf(" taken\n");
+        printf(outcome.refusal != 0 ? "\n" : " taken\n");
     }
 }
 
