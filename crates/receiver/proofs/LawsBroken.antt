@@ -11,7 +11,7 @@ use lib.ListN.{length}
 use Rattle.identifiers.specs.Choice.{pick, both}
 use Rattle.identifiers.specs.Below.{allBelow}
 use Rattle.identifiers.specs.Refusals.{refusal}
-use Rattle.identifiers.proofs.LawsChoice.{Holds, by-test, pick-true, pick-false, both-false, stop}
+use Rattle.identifiers.proofs.LawsChoice.{pick-true, pick-false, both-false, stop}
 use Rattle.identifiers.proofs.LawsBelow.{all-not, all-fails}
 use Rattle.readings.specs.Positions.{trailerAt}
 use Rattle.readings.specs.declared.position.Position.{Position}
@@ -27,9 +27,10 @@ use Rattle.receiver.specs.declared.step.Outcome.the-variants.{Refused, O
 use Rattle.receiver.specs.Receptions.{soundReception}
 use Rattle.receiver.specs.Nodes.{receptionAt, soundNode}
 use Rattle.receiver.specs.Frames.{judgedOf}
-use Rattle.receiver.specs.Steps.{kept, shut, opened, takenStep, followed, stepOf, stepBy, ownOf, receivedBy, receivedAt, receivedOf}
+use Rattle.receiver.specs.Steps.{kept, shut, opened, followed, stepOf, stepBy, ownOf, receivedBy, receivedAt, receivedOf}
 use Rattle.receiver.specs.Names.{BrokenReception, closed-with-frames, closed-with-stamp, under-seven, none-left, Broken, not-a-trailer, past-the-last, broken-reception, other-room}
 use Rattle.receiver.proofs.LawsFrames.{refused-number}
+use Rattle.receiver.proofs.LawsRungs.{followed-exactly, next-number}
 
 -- ---- a reception
 which-broken : (r : Reception) (none frames stamp seven left : Bool) → eqb (r .length) 0 ≡ none → eqb (r .taken) 0 ≡ frames → eqb (r .last) 0 ≡ stamp → leb 7 (r .length) ≡ seven
@@ -82,23 +83,10 @@ module _ (n : Node) (buffer : List ℕ) where
   abbrev NotOne : Step → Type 0
   NotOne s = s .outcome ≡ Refused (refusal 1) → ⊥
 
-  module _ (r : Reception) (count stamp : ℕ) where
-    taken-not-1 : (from : Position) → Holds NotOne (takenStep r from stamp)
-    unfolding takenStep
-    taken-not-1 from =
-        by-test _ (λ a. record { holds = λ e. let z : _≡_ {A = ℕ} 0 1 = cc in omega arith }) (λ a. record { holds = λ e. let z : _≡_ {A = ℕ} 0 1 = cc in omega arith })
-
-    followed-not-1 : (from : Position) (number : ℕ) → Holds NotOne (followed r from number count stamp)
-    unfolding followed shut kept
-    followed-not-1 from number =
-        by-test _ (λ a. record { holds = λ e. let z : _≡_ {A = ℕ} 0 1 = cc in omega arith })
-        (λ a. by-test _ (λ b. record { holds = λ e. let z : _≡_ {A = ℕ} 0 1 = cc in omega arith })
-        (λ b. by-test _ (λ c. by-test _ (λ d. record { holds = λ e. let z : _≡_ {A = ℕ} 0 1 = cc in omega arith }) (λ d. taken-not-1 from))
-        (λ c. record { holds = λ e. let z : _≡_ {A = ℕ} 0 1 = cc in omega arith })))
-
-    single-not-1 : (from : Position) (functional : Bool) (L : ℕ) → Holds NotOne (pick functional (kept r (Single from functional L)) (shut (Single from functional L)))
-    unfolding shut kept
-    single-not-1 from functional L = by-test _ (λ a. record { holds = λ e. let z : _≡_ {A = ℕ} 0 1 = cc in omega arith }) (λ a. record { holds = λ e. let z : _≡_ {A = ℕ} 0 1 = cc in omega arith })
+  single-not-1 : (r : Reception) (from : Position) (functional : Bool) (L : ℕ) → NotOne (pick functional (kept r (Single from functional L)) (shut (Single from functional L)))
+  unfolding pick shut kept
+  single-not-1 r from true L = λ (e : Single from true L ≡ Refused (refusal 1)). let z : _≡_ {A = ℕ} 0 1 = cc in omega arith
+  single-not-1 r from false L = λ (e : Single from false L ≡ Refused (refusal 1)). let z : _≡_ {A = ℕ} 0 1 = cc in omega arith
 
   module _ (identifier : ℕ) (bytes : List ℕ) (stamp : ℕ) where
     step-not-1 : (own : Position) (r : Reception) (j : Judged) → judgedOf own (n .unit) identifier bytes ≡ j → NotOne (stepOf r j (length bytes) stamp)
@@ -107,10 +95,12 @@ module _ (n : Node) (buffer : List ℕ) where
         λ (e : Refused why ≡ Refused (refusal 1)).
         let same : why ≡ refusal 1 = cc in
         omega (arith, refused-number own (n .unit) identifier bytes (refusal 1) (f ∙ ap judged.Refused same) .0)
-    step-not-1 own r (judged.Single from functional L) f = single-not-1 r (length bytes) stamp from functional L .holds
+    step-not-1 own r (judged.Single from functional L) f = single-not-1 r from functional L
     step-not-1 own r (judged.First from L) f = λ (e : Opened from ≡ Refused (refusal 1)). let z : _≡_ {A = ℕ} 0 1 = cc in omega arith
     step-not-1 own r (judged.OverLong from) f = λ (e : OverLong from ≡ Refused (refusal 1)). let z : _≡_ {A = ℕ} 0 1 = cc in omega arith
-    step-not-1 own r (judged.Consecutive from number) f = followed-not-1 r (length bytes) stamp from number .holds
+    step-not-1 own r (judged.Consecutive from number) f =
+        λ (e : followed r from number (length bytes) stamp .outcome ≡ Refused (refusal 1)).
+        omega (arith, next-number r from number (length bytes) stamp (followed-exactly r from number (length bytes) stamp (refusal 1) .0 e))
 
     none-of : (v : Vehicle) → receivedAt n identifier bytes stamp v .outcome ≡ Refused (refusal 1) → v ≡ NoVehicle
     unfolding receivedAt receivedBy stepBy

@@ -6,10 +6,10 @@ use mathlib.Core.Logic.{_≢_, _↔_}
 use Prim.Native.Nat.{ℕ, _+_, _*_, _/_, _%_, _≤_}
 use native.Mathlib.Omega.{arith}
 use borrow.Author.Tests.{ltb-true, ltb-false, eqb-true, eqb-false, le-ltb, lt-ltb, lt-leb, eq-eqb, ne-eqb}
-use lib.Dec.{eqb}
+use lib.Dec.{eqb, lit≤}
 use lib.ListN.{length, getD}
 use Rattle.identifiers.specs.Choice.{pick, both}
-use Rattle.identifiers.specs.Refusals.{refusal}
+use Rattle.identifiers.specs.Refusals.{refusal, numberOf}
 use Rattle.identifiers.specs.Identifiers.{fieldsOf}
 use Rattle.identifiers.specs.declared.refusal.Refusal.{Refusal}
 use Rattle.identifiers.proofs.LawsChoice.{Holds, by-test, pick-true, pick-false, both-false, stop, right-decides}
@@ -156,6 +156,12 @@ module _ (r : Reception) (from : Position) (number count stamp : ℕ) where
   next-so (names-short a b) = ap told (pick-false _ _ (ne-eqb _ _ a) ∙ pick-true _ _ (lt-ltb _ _ b))
   next-so (names-13 a b c) = ap told (pick-false _ _ (ne-eqb _ _ a) ∙ pick-false _ _ (le-ltb _ _ b) ∙ pick-false _ _ (ne-eqb _ _ c))
   next-so (names-14 a b c d) = ap told (pick-false _ _ (ne-eqb _ _ a) ∙ pick-false _ _ (le-ltb _ _ b) ∙ pick-true _ _ (eq-eqb _ _ c) ∙ pick-true _ _ (lt-ltb _ _ d))
+
+  pub next-number : {why : Refusal} → NamesNext r number count stamp why → 9 ≤ numberOf why
+  next-number (names-12 a) = lit≤ tt
+  next-number (names-short a b) = lit≤ tt
+  next-number (names-13 a b c) = lit≤ tt
+  next-number (names-14 a b c d) = lit≤ tt
 
   -- 12, then 9, 13 and 14, each exactly where it is due
   pub followed-exactly : (why : Refusal) → followed r from number count stamp .outcome ≡ outcome.Refused why ↔ NamesNext r number count stamp why
