@@ -13,5 +13,6 @@ pub mod LawsSteps
 pub mod LawsGiven
 pub mod LawsOthers
 pub mod LawsReceived
+pub mod EachRefusal
 pub mod LawsShown
 pub mod OneFrame

@@ -15,7 +15,7 @@ use Rattle.receiver.specs.declared.reception.Reception.{Reception}
 use Rattle.receiver.specs.declared.node.Node.{Node}
 use Rattle.receiver.specs.Nodes.{receptionAt}
 use Rattle.receiver.specs.Steps.{gapOf}
-use Rattle.receiver.specs.Wire.{Addressed}
+use Rattle.receiver.specs.Wire.{Addressed, IsConsecutive}
 
 -- checks 2, 3 and 4 hold
 pub record Readable (n : ℕ) (bytes : List ℕ) : Type 0 where
@@ -88,6 +88,12 @@ pub data NamesNext (r : Reception) (number count stamp : ℕ) : Refusal → Type
   names-short : r .length ≢ 0 → count < 2 + min 6 (r .length - (5 + 6 * r .taken)) → NamesNext r number count stamp (refusal 9)
   names-13 : r .length ≢ 0 → 2 + min 6 (r .length - (5 + 6 * r .taken)) ≤ count → number ≢ (r .taken + 1) % 16 → NamesNext r number count stamp (refusal 13)
   names-14 : r .length ≢ 0 → 2 + min 6 (r .length - (5 + 6 * r .taken)) ≤ count → number ≡ (r .taken + 1) % 16 → 150 < gapOf stamp (r .last) → NamesNext r number count stamp (refusal 14)
+
+-- a refusal of a frame offered to a node at this own position that keeps its rules: the frame's by itself, or a consecutive frame's by its vehicle's reception
+pub data Refuses (own : Position) (n : Node) (identifier : ℕ) (bytes : List ℕ) (stamp : ℕ) (why : Refusal) : Type 0 where
+  by-itself : Names own (n .unit) identifier bytes why → Refuses own n identifier bytes stamp why
+  by-reception : {p : Position} {number : ℕ} → Addressed own (n .unit) identifier bytes p false → IsConsecutive bytes number → NamesNext (receptionAt n (placeOf p)) number (length bytes) stamp why
+      → Refuses own n identifier bytes stamp why
 
 -- a reception that breaks its rules: "closed", all its numbers 0, "or open with L 7..255, the frames k taken (5 + 6k below L)"
 pub data BrokenReception (r : Reception) : Type 0 where

@@ -1,0 +1,67 @@
+-- Every refusal of a frame that is offered to a node, exactly where document 01 gives it: 1, then 2 to 10 of the frame by itself, 11, and 12, 9, 13, 14 of a consecutive frame.
+use mathlib.Core.Path.{_≡_, refl, sym, ap, _∙_}
+use mathlib.Core.Bool.{Bool, true, false}
+use mathlib.Core.List.{List}
+use mathlib.Core.Logic.{_↔_}
+use Prim.Native.Nat.{ℕ}
+use native.Mathlib.Omega.{arith}
+use lib.ListN.{length}
+use Rattle.identifiers.specs.Choice.{pick}
+use Rattle.identifiers.specs.declared.refusal.Refusal.{Refusal}
+use Rattle.readings.specs.declared.position.Position.{Position}
+use Rattle.receiver.specs.declared.reception.Reception.{Reception}
+use Rattle.receiver.specs.declared.node.Node.{Node}
+use Rattle.receiver.specs.declared.frame.Judged.{Judged}
+use Rattle.receiver.specs.declared.frame.Judged.the-variants as judged
+use Rattle.receiver.specs.declared.step.Received.{Received}
+use Rattle.receiver.specs.declared.step.Outcome.{Outcome}
+use Rattle.receiver.specs.declared.step.Outcome.the-variants.{Refused, OverLong, Opened, Single}
+use Rattle.receiver.specs.Nodes.{receptionAt}
+use Rattle.receiver.specs.Frames.{judgedOf}
+use Rattle.receiver.specs.Steps.{kept, shut, opened, stepOf, judgedPlace, receivedOf}
+use Rattle.receiver.specs.Names.{Refuses, by-itself, by-reception}
+use Rattle.receiver.proofs.LawsFrames.{fair}
+use Rattle.receiver.proofs.LawsKinds.{consecutive-is}
+use Rattle.receiver.proofs.LawsRungs.{refused-exactly, followed-exactly}
+use Rattle.receiver.proofs.LawsReceived.{Ready, received-is}
+
+module _ (n : Node) (buffer : List ℕ) (own : Position) (ready : Ready n (length buffer) own) (identifier : ℕ) (bytes : List ℕ) (stamp : ℕ) where
+  abbrev frame : Judged
+  frame = judgedOf own (n .unit) identifier bytes
+
+  abbrev outcomeBy : Judged → Outcome
+  outcomeBy j = stepOf (receptionAt n (judgedPlace j)) j (length bytes) stamp .outcome
+
+  abbrev received : Outcome
+  received = receivedOf n buffer identifier bytes stamp .outcome
+
+  received-by : received ≡ outcomeBy frame
+  received-by = ap (λ (r : Received). r .outcome) (received-is n buffer own (n .unit) (ready .sound) (ready .fits) (ready .at) refl identifier bytes stamp)
+
+  -- ---- 2 to 10 and 12 to 14
+  not-single : (r : Reception) (p : Position) (functional : Bool) (L : ℕ) (why : Refusal) → pick functional (kept r (Single p functional L)) (shut (Single p functional L)) .outcome ≡ Refused why → ⊥
+  unfolding pick shut kept
+  not-single r p true L why = λ (e : Single p true L ≡ Refused why). let z : _≡_ {A = ℕ} 0 1 = cc in omega arith
+  not-single r p false L why = λ (e : Single p false L ≡ Refused why). let z : _≡_ {A = ℕ} 0 1 = cc in omega arith
+
+  which : (why : Refusal) (j : Judged) → frame ≡ j → outcomeBy j ≡ Refused why → Refuses own n identifier bytes stamp why
+  unfolding stepOf opened shut kept
+  which why (judged.Refused other) f =
+      λ (e : Refused other ≡ Refused why).
+      let same : other ≡ why = cc in
+      by-itself (refused-exactly own (n .unit) identifier bytes why .0 (f ∙ ap judged.Refused same))
+  which why (judged.Single p functional L) f = λ e. absurd (not-single _ p functional L why e)
+  which why (judged.First p L) f = λ (e : Opened p ≡ Refused why). let z : _≡_ {A = ℕ} 0 1 = cc in absurd (omega arith)
+  which why (judged.OverLong p) f = λ (e : OverLong p ≡ Refused why). let z : _≡_ {A = ℕ} 0 1 = cc in absurd (omega arith)
+  which why (judged.Consecutive p number) f =
+      λ e. let x = fair own (n .unit) identifier bytes _ f in
+      by-reception (x .0) (x .1) (followed-exactly _ p number (length bytes) stamp why .0 e)
+
+  so-refused : (why : Refusal) → Refuses own n identifier bytes stamp why → outcomeBy frame ≡ Refused why
+  unfolding stepOf kept
+  so-refused why (by-itself x) = ap outcomeBy (refused-exactly own (n .unit) identifier bytes why .1 x)
+  so-refused why (by-reception {p} {number} a c x) =
+      ap outcomeBy (consecutive-is own (n .unit) identifier bytes p number .1 (a, c)) ∙ followed-exactly _ p number (length bytes) stamp why .1 x
+
+  pub refuses-exactly : (why : Refusal) → received ≡ Refused why ↔ Refuses own n identifier bytes stamp why
+  refuses-exactly why = (λ e. which why frame refl (sym received-by ∙ e), λ x. received-by ∙ so-refused why x)
