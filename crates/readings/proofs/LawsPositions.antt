@@ -2,15 +2,16 @@
 use mathlib.Core.Path.{_≡_, refl, sym, ap, _∙_}
 use mathlib.Core.Bool.{Bool, true, false}
 use mathlib.Core.List.{List, [], _∷_}
+use mathlib.Core.Logic.{_⊎_, inl, inr}
 use Prim.Native.Nat.{ℕ, zero, suc, _+_, _-_, _≤_, _<_}
 use native.Mathlib.Omega.{arith}
 use lib.Dec.{eqb, lit<}
 use lib.ListN.{List·getD-eq-default}
-use borrow.Author.Tests.{eqb-true, eqb-false, ne-eqb}
+use borrow.Author.Tests.{eqb-true, eqb-false, eq-eqb, ne-eqb}
 use Rattle.identifiers.specs.Choice.{pick}
 use Rattle.identifiers.specs.Refusals.{refusal}
 use Rattle.identifiers.specs.declared.refusal.Refusal.{Refusal}
-use Rattle.identifiers.proofs.LawsChoice.{pick-false, was-passed}
+use Rattle.identifiers.proofs.LawsChoice.{pick-true, pick-false, was-passed}
 use Rattle.readings.specs.declared.position.Position.{Position}
 use Rattle.readings.specs.declared.position.Position.the-variants.{Zero, One, Two, Three, Four, Five}
 use Rattle.readings.specs.declared.position.Vehicle.{Vehicle}
@@ -127,6 +128,11 @@ trailer-place n p e =
 pub trailer-back : (p : Position) → 1 ≤ placeOf p → trailerAt (placeOf p) ≡ At p
 unfolding trailerAt
 trailer-back p h = pick-false _ _ (ne-eqb (placeOf p) 0 (λ (e : placeOf p ≡ 0). omega arith)) ∙ place-back p
+
+pub trailer-no : (n : ℕ) → (n < 1) ⊎ (5 < n) → trailerAt n ≡ NoVehicle
+unfolding trailerAt
+trailer-no n (inl h) = let z : n ≡ 0 = omega arith in pick-true _ _ (eq-eqb _ _ z)
+trailer-no n (inr h) = pick-false _ _ (ne-eqb n 0 (λ (z : n ≡ 0). omega arith)) ∙ position-past n h
 
 pub trailer-none : (n : ℕ) → 1 ≤ n → trailerAt n ≡ NoVehicle → 5 < n
 unfolding trailerAt

@@ -3,7 +3,7 @@ use mathlib.Core.Path.{_≡_, refl, sym, subst, _∙_}
 use mathlib.Core.List.{List, [], _∷_}
 use Prim.Native.Nat.{ℕ, zero, suc, _*_, _^_, _≤_, _<_}
 use native.Mathlib.Omega.{arith}
-use borrow.Author.Tests.{le-ltb, le-leb, lt-leb, eq-eqb, ne-eqb, ltb-false}
+use borrow.Author.Tests.{lt-ltb, le-ltb, le-leb, lt-leb, eq-eqb, ne-eqb, ltb-false}
 use lib.Dec.{T, leb, ltb, eqb, lit<, lit≤}
 use lib.IntN.{ℤ, pos, natAbs, subℕ}
 use lib.Ieee.{Float, binary32, toBits}
@@ -72,6 +72,16 @@ module _ (k : Kind) (raw high : ℕ) where
   pub high-20 : 255 < high → measuredBy k raw high ≡ parameter.Refused (refusal 20)
   high-20 h = above (omega arith) ∙ pick-false _ _ (ne-eqb high 255 (λ (e : high ≡ 255). omega arith))
 
+-- "raw 126..250 beyond range" of percent load: past the last raw number in range
+pub beyond-range : (k : Kind) (raw : ℕ) → k .last < raw → inRange k raw ≡ bare BeyondRange
+unfolding inRange
+beyond-range k raw h = pick-true _ _ (lt-ltb _ _ h)
+
+-- 20 "kind over 7"
+pub kind-20 : (kind raw : ℕ) → 7 < kind → parameterOf kind raw ≡ parameter.Refused (refusal 20)
+unfolding parameterOf
+kind-20 kind raw h = pick-true _ _ (lt-ltb _ _ h)
+
 pub value-of : (k : Kind) (raw : ℕ) → raw ≤ k .last
     → inRange k raw ≡ parameter.Read (record { reading = Value (fraction (subℕ raw (k .below * k .divisor)) (k .divisor)); whole = subℕ raw (k .below * k .divisor) })
 unfolding inRange valued
@@ -125,6 +135,11 @@ readings-exact kind raw m e =
     rw e at h
 
 -- ---- two bits
+-- "0 no, 1 yes, 2 error, 3 not available"
+pub two-bits-are : (twoBitsOf 0 ≡ two.Read bits.No) × ((twoBitsOf 1 ≡ two.Read bits.Yes) × ((twoBitsOf 2 ≡ two.Read bits.Error) × (twoBitsOf 3 ≡ two.Read bits.NotAvailable)))
+unfolding twoBitsOf
+two-bits-are = (refl, (refl, (refl, refl)))
+
 pub two-bits-20 : (raw : ℕ) → 4 ≤ raw → twoBitsOf raw ≡ two.Refused (refusal 20)
 unfolding twoBitsOf
 two-bits-20 raw h = List·getD-eq-default (two.Read bits.No ∷ two.Read bits.Yes ∷ two.Read bits.Error ∷ two.Read bits.NotAvailable ∷ []) (two.Refused (refusal 20)) h

@@ -21,7 +21,7 @@ use Rattle.readings.specs.declared.position.Vehicle.the-variants.{At, No
 use Rattle.readings.specs.declared.routing.Side.{Side}
 use Rattle.readings.specs.declared.routing.Side.the-variants.{Predecessor, Successor}
 use Rattle.readings.specs.declared.routing.Onward.{Onward}
-use Rattle.readings.specs.declared.routing.Onward.the-variants.{ToPredecessor, ToSuccessor}
+use Rattle.readings.specs.declared.routing.Onward.the-variants.{Nowhere, ToPredecessor, ToSuccessor}
 use Rattle.readings.specs.declared.routing.Routed.the-variants.{Passed, Neither, Refused}
 use Rattle.readings.specs.Positions.{placeOf, addressOf, global, vehicleOf}
 use Rattle.readings.specs.Routes.{ownAt, comes, named, onwardOf, passage, routedFrom, routedBy, routedRead, routedAt, routeOf, Comes, Keeps, to-own, to-all, to-group}
@@ -96,6 +96,11 @@ module _ (side : Side) (own : ℕ) (successor : Bool) (number count : ℕ) where
       → routeOf side own successor number count ≡ routedBy side p successor i
   unfolding routeOf routedAt routedRead
   route-read p i h k = ap (routedAt side successor (frameRead number count)) h ∙ ap (routedRead side p successor) k
+
+-- ---- "sent on unchanged to the other side where a neighbour exists (the predecessor always does)"
+pub sent-on : (onwardOf Predecessor true ≡ ToSuccessor) × ((onwardOf Predecessor false ≡ Nowhere) × ((successor : Bool) → onwardOf Successor successor ≡ ToPredecessor))
+unfolding onwardOf pick
+sent-on = (refl, (refl, λ successor. refl))
 
 -- ---- a frame is never sent back to the side it came from
 abbrev pub back : Side → Onward

@@ -1,8 +1,9 @@
--- The cutter refuses, with 16, exactly where document 01 says, and then gives no frame.
+-- The cutter refuses, with 16, exactly where document 01 says, and then gives no frame; so does flow control.
 use mathlib.Core.Path.{_≡_, refl, sym}
 use mathlib.Core.Bool.{Bool, true, false}
 use mathlib.Core.List.{List}
-use Prim.Native.Nat.{ℕ, _≤_}
+use mathlib.Core.Logic.{_⊎_, inl, inr}
+use Prim.Native.Nat.{ℕ, _≤_, _<_}
 use native.Mathlib.Omega.{arith}
 use lib.Dec.{leb, eqb}
 use lib.ListN.{length, replicate}
@@ -17,7 +18,8 @@ use Rattle.readings.specs.declared.position.Vehicle.the-variants.{At, NoVehicle
 use Rattle.readings.proofs.LawsPositions.{position-past, position-none}
 use Rattle.receiver.specs.declared.node.Answer.the-variants.{Done, Refused}
 use Rattle.receiver.specs.declared.cutter.FrameCut.{FrameCut}
-use Rattle.receiver.specs.Cuts.{framesOf, noFrame, cutTold, pieceOf, between, cutOf, Uncut, empty, too-long, past-last, no-sender, no-receiver, same-position}
+use Rattle.receiver.specs.declared.step.Control.{Control}
+use Rattle.receiver.specs.Cuts.{framesOf, noFrame, cutTold, pieceOf, between, cutOf, controlOf, Uncut, empty, too-long, past-last, no-sender, no-receiver, same-position}
 use Rattle.receiver.proofs.LawsPieces.{frames-none, none-else, between-first, between-second}
 use Rattle.receiver.proofs.LawsOnWire.{headed-done}
 
@@ -36,6 +38,14 @@ unfolding pieceOf
 piece-done sender receiver unit message k =
     by-test {P = λ (c : FrameCut). c .answer ≡ Done} _ (λ e. record { holds = headed-done sender receiver _ _ })
     (λ e. by-test _ (λ f. record { holds = headed-done sender receiver _ _ }) (λ f. record { holds = headed-done sender receiver _ _ })) .holds
+
+-- flow control: "positions over 5 or equal"
+module _ (control : Control) (from to unit : ℕ) where
+  pub control-16 : (5 < from) ⊎ ((5 < to) ⊎ (from ≡ to)) → controlOf control from to unit ≡ noFrame
+  unfolding controlOf
+  control-16 (inl h) = none-else _ _ (between-first _ _ _ (position-past from h))
+  control-16 (inr (inl h)) = none-else _ _ (between-second _ _ _ (position-past to h))
+  control-16 (inr (inr e)) = pick-true _ _ (eq-eqb _ _ e)
 
 module _ (message : List ℕ) (k from to unit : ℕ) where
   pub cut-16 : Uncut message k from to → cutOf message k from to unit ≡ noFrame

@@ -65,7 +65,13 @@ module _ (L k t : ℕ) (from : Position) (number count stamp : ℕ) (is-open : L
         unfolding takenStep leftOf doneOf
         followed-last h = followed-taken ∙ pick-false _ _ (le-ltb _ _ h)
 
--- "the gap is later minus earlier modulo 2^32": none from a stamp to itself
-pub gap-same : (stamp : ℕ) → stamp < 2 ^ 32 → gapOf stamp stamp ≡ 0
-unfolding gapOf
-gap-same stamp h = let e : stamp + (2 ^ 32 - stamp) ≡ 2 ^ 32 = omega arith in rw e
+-- "the gap is later minus earlier modulo 2^32"
+module _ (later earlier : ℕ) where
+  pub gap-on : earlier ≤ later → later < 2 ^ 32 → gapOf later earlier ≡ later - earlier
+  unfolding gapOf
+  gap-on h l = omega arith
+
+  -- "so a stamp that goes back is late": by up to 2^32 - 151
+  pub gap-back : later < earlier → earlier < 2 ^ 32 → gapOf later earlier ≡ 2 ^ 32 - (earlier - later)
+  unfolding gapOf
+  gap-back h l = omega arith

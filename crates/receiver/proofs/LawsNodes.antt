@@ -2,7 +2,7 @@
 use mathlib.Core.Path.{_≡_, refl, ap, _∙_}
 use mathlib.Core.Bool.{true, false}
 use mathlib.Core.List.{List}
-use mathlib.Core.Logic.{_≢_}
+use mathlib.Core.Logic.{_≢_, _⊎_}
 use Prim.Native.Nat.{ℕ, _≤_, _<_}
 use borrow.Author.Tests.{eq-eqb, ne-eqb}
 use lib.ListN.{length, length-set, length-replicate, getD-replicate}
@@ -13,7 +13,7 @@ use Rattle.identifiers.proofs.LawsChoice.{pick-true, pick-false}
 use Rattle.readings.specs.Positions.{placeOf, takenAfter}
 use Rattle.readings.specs.declared.position.Position.{Position}
 use Rattle.readings.specs.declared.position.AddressTaken.the-variants.{Own, Refused}
-use Rattle.readings.proofs.LawsPositions.{trailer-back, after-15}
+use Rattle.readings.proofs.LawsPositions.{trailer-back, trailer-no, after-15}
 use Rattle.receiver.specs.declared.reception.Reception.{Reception}
 use Rattle.receiver.specs.declared.node.Node.{Node}
 use Rattle.receiver.specs.declared.node.Answer.the-variants.{Done}
@@ -71,6 +71,11 @@ module _ (own unit : ℕ) where
 pub made-fresh : (own : Position) (unit : ℕ) → 1 ≤ placeOf own → freshOf (placeOf own) unit ≡ record { node = freshNode (placeOf own) unit; answer = Done }
 unfolding freshOf madeAt done
 made-fresh own unit h = ap (madeAt (freshNode (placeOf own) unit)) (trailer-back own h)
+
+-- 1 "own position not 1..5": of every other
+pub fresh-1 : (own unit : ℕ) → (own < 1) ⊎ (5 < own) → freshOf own unit ≡ unchanged (freshNode own unit) (refusal 1)
+unfolding freshOf madeAt
+fresh-1 own unit h = ap (madeAt (freshNode own unit)) (trailer-no own h)
 
 pub start-fresh : (unit : ℕ) → startOf unit ≡ freshNode 1 unit
 unfolding startOf

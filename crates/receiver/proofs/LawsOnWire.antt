@@ -1,4 +1,4 @@
--- What each frame of a cut message is on the wire, and that it is addressed as document 01 says.
+-- What each frame of a cut message and of flow control is on the wire, and that it is addressed as document 01 says.
 use mathlib.Core.Path.{_≡_, refl, sym, ap, _∙_}
 use mathlib.Core.Bool.{false}
 use mathlib.Core.List.{List, [], _∷_, _++_}
@@ -22,9 +22,11 @@ use Rattle.readings.specs.declared.position.Position.{Position}
 use Rattle.readings.proofs.LawsPositions.{place-back, address-byte}
 use Rattle.receiver.specs.declared.node.Answer.the-variants.{Done}
 use Rattle.receiver.specs.declared.cutter.FrameCut.{FrameCut}
+use Rattle.receiver.specs.declared.step.Control.{Control}
+use Rattle.receiver.specs.declared.step.Control.the-variants.{Continue, Overflow}
 use Rattle.receiver.specs.Frames.{Frame}
 use Rattle.receiver.specs.Wire.{Addressed}
-use Rattle.receiver.specs.Cuts.{framesOf, physicalTo, framedAs, framed, headed, pieceOf, cutOf, onWire}
+use Rattle.receiver.specs.Cuts.{framesOf, physicalTo, framedAs, framed, headed, pieceOf, cutOf, controlByte, controlOf, onWire}
 use Rattle.receiver.proofs.LawsPieces.{frames-one, frames-many, between-both}
 
 -- ---- a frame from one position to another
@@ -99,6 +101,22 @@ module _ (sender receiver : Position) (unit : ℕ) (m : List ℕ) (other : place
         (pick-false _ _ (lt-leb _ _ long)
         ∙ pick-false _ _ (ne-eqb _ _ z)
         ∙ ap (λ (i : ℕ). headed sender receiver (unit ∷ (0x20 + suc k % 16) ∷ []) (take 6 (drop (5 + 6 * i) m))) e) (omega arith)
+
+-- ---- flow control: "continue control (`30 00 00`)", "overflow control (`32 00 00` after the unit)"
+module _ (sender receiver : Position) (unit stamp : ℕ) (other : placeOf sender ≢ placeOf receiver) where
+  control-is : (control : Control) → onWire (controlOf control (placeOf sender) (placeOf receiver) unit) stamp ≡ record { identifier = identifierTo sender receiver; bytes = unit ∷ controlByte control ∷ 0 ∷ 0 ∷ []; stamp = stamp }
+  unfolding controlOf
+  control-is control =
+      ap (λ (c : FrameCut). onWire c stamp) (pick-false _ _ (ne-eqb _ _ other) ∙ between-both _ _ _ sender receiver (place-back sender) (place-back receiver))
+      ∙ headed-wire sender receiver (unit ∷ []) (controlByte control ∷ 0 ∷ 0 ∷ []) stamp (omega arith)
+
+  pub continue-wire : onWire (controlOf Continue (placeOf sender) (placeOf receiver) unit) stamp ≡ record { identifier = identifierTo sender receiver; bytes = unit ∷ 0x30 ∷ 0 ∷ 0 ∷ []; stamp = stamp }
+  unfolding controlByte
+  continue-wire = control-is Continue
+
+  pub overflow-wire : onWire (controlOf Overflow (placeOf sender) (placeOf receiver) unit) stamp ≡ record { identifier = identifierTo sender receiver; bytes = unit ∷ 0x32 ∷ 0 ∷ 0 ∷ []; stamp = stamp }
+  unfolding controlByte
+  overflow-wire = control-is Overflow
 
 -- ---- what the receiver makes of a physical frame from p to itself
 module _ (own p : Position) where

@@ -1,14 +1,22 @@
 -- Laws of the fault codes: what is listed and how long it is, and what is cleared, place by place.
-use mathlib.Core.Path.{_≡_, refl}
-use mathlib.Core.Bool.{Bool, true, false}
+use mathlib.Core.Path.{_≡_, refl, ap}
+use mathlib.Core.Bool.{Bool, true, false, not}
 use mathlib.Core.List.{List, [], _++_}
+use mathlib.Core.Logic.{_≢_, _↔_}
 use Prim.Native.Nat.{ℕ, zero, suc, _+_, _*_, _≤_}
 use native.Mathlib.Numerals.{add-one}
 use native.Mathlib.Omega.{arith}
+use borrow.Author.Tests.{eqb-false, ne-eqb, not-true}
+use lib.Bits.{bitAnd}
 use lib.ListN.{getD, set, length, length-append}
 use Rattle.identifiers.specs.Choice.{pick}
 use Rattle.identifiers.proofs.LawsBelow.{count-none, count-suc, count-le, list-none, list-suc}
-use Rattle.server.specs.Faults.{listed, countListed, codeAndStatus, listedAt, reportOf, inGroup, clearedBelow}
+use Rattle.server.specs.Faults.{matches, listed, countListed, codeAndStatus, listedAt, reportOf, inGroup, clearedBelow}
+
+-- "Match: status AND mask is not 0."
+pub matches-exactly : (status mask : ℕ) → matches status mask ≡ true ↔ (bitAnd status mask ≢ 0)
+unfolding matches
+matches-exactly status mask = (λ e. eqb-false _ _ (not-true _ e), λ n. ap not (ne-eqb _ _ n))
 
 pub listed-hit : (codes statuses : List ℕ) (all : Bool) (mask i : ℕ) → listed all mask (getD statuses i 0) ≡ true → codeAndStatus (getD codes i 0) (getD statuses i 0) ≡ listedAt codes statuses all mask i
 unfolding listedAt pick

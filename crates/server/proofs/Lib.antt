@@ -2,6 +2,7 @@
 pub mod LawsPlaces
 pub mod LawsMask
 pub mod LawsTrailer
+pub mod LawsRules
 pub mod LawsFaults
 pub mod LawsDataIdentifiers
 pub mod LawsRequests

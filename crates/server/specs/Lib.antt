@@ -2,6 +2,7 @@
 pub mod Mask
 pub mod Places
 pub mod Trailer
+pub mod Rules
 pub mod Faults
 pub mod DataIdentifiers
 pub mod Requests

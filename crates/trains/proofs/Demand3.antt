@@ -6,7 +6,7 @@ use mathlib.Core.List.{List, [], _∷_, _++_, append-assoc}
 use mathlib.Core.Logic.{_≢_, _↔_}
 use Prim.Native.Nat.{ℕ, suc, _+_, _-_, _*_, _%_, _^_, _≤_, _<_}
 use native.Mathlib.Omega.{arith}
-use lib.Dec.{lit<}
+use lib.Dec.{lit<, lit≤}
 use lib.ListN.{length, take, drop, replicate, length-replicate}
 use Rattle.identifiers.specs.Refusals.{refusal}
 use Rattle.readings.specs.Positions.{placeOf, addressOf}
@@ -24,7 +24,7 @@ use Rattle.trains.specs.Runs.{Held, handedAt, requests}
 use Rattle.receiver.specs.Wire.{Addressed, IsSingle, IsFirst, IsOverLong, IsConsecutive}
 use Rattle.trains.specs.Terms.{Within, same, later, only, fromAddress, origin, Aside, Fate, Follows, Whole, cutFrame, SentWhole, sends, InTime}
 use Rattle.receiver.proofs.LawsNodes.{made-fresh, start-fresh}
-use Rattle.receiver.proofs.LawsFollowed.{gap-same}
+use Rattle.receiver.proofs.LawsFollowed.{gap-on}
 use Rattle.receiver.proofs.LawsCutter.{none-16, cut-16, only-16}
 use Rattle.receiver.proofs.LawsKinds.{single-is, first-is, over-long-is, consecutive-is}
 use Rattle.trains.proofs.LawsSequences.{same-train, one-request, readings-agree, once}
@@ -274,7 +274,7 @@ module _ (own : Position) (unit : ℕ) where
   read-back p m other some most stamps timely h r x = read-after own unit p m other some most stamps h timely r x
 
   pub sendable : Sendable own unit
-  sendable p m other some most h = sent-whole own unit p m other some most (λ k. 0) h (λ k l. omega (arith, gap-same 0 (lit< tt)))
+  sendable p m other some most h = sent-whole own unit p m other some most (λ k. 0) h (λ k l. omega (arith, gap-on 0 0 (lit≤ tt) (lit< tt)))
 
   pub cut-taken-apart : CutTakenApart own unit
   cut-taken-apart p m other t = (cut-single own unit p m other t, λ long most. cut-first own unit p m other long most t, λ long most k l. cut-consecutive own unit p m other long most k t l)
