@@ -1,13 +1,15 @@
--- Every refusal of a frame that is offered to a node, exactly where document 01 gives it: 1, then 2 to 10 of the frame by itself, 11, and 12, 9, 13, 14 of a consecutive frame.
+-- Every refusal of a frame that is offered to a node, exactly where document 01 gives it: 2 to 10 of the frame by itself, and 12, 9, 13, 14 of a consecutive frame.
 use mathlib.Core.Path.{_≡_, refl, sym, ap, _∙_}
 use mathlib.Core.Bool.{Bool, true, false}
 use mathlib.Core.List.{List}
 use mathlib.Core.Logic.{_↔_}
-use Prim.Native.Nat.{ℕ}
+use Prim.Native.Nat.{ℕ, _≤_}
 use native.Mathlib.Omega.{arith}
 use lib.ListN.{length}
 use Rattle.identifiers.specs.Choice.{pick}
+use Rattle.identifiers.specs.Refusals.{numberOf}
 use Rattle.identifiers.specs.declared.refusal.Refusal.{Refusal}
+use Rattle.readings.specs.Positions.{placeOf}
 use Rattle.readings.specs.declared.position.Position.{Position}
 use Rattle.receiver.specs.declared.reception.Reception.{Reception}
 use Rattle.receiver.specs.declared.node.Node.{Node}
@@ -20,25 +22,19 @@ use Rattle.receiver.specs.Nodes.{receptionAt}
 use Rattle.receiver.specs.Frames.{judgedOf}
 use Rattle.receiver.specs.Steps.{kept, shut, opened, stepOf, judgedPlace, receivedOf}
 use Rattle.receiver.specs.Names.{Refuses, by-itself, by-reception}
-use Rattle.receiver.proofs.LawsFrames.{fair}
+use Rattle.receiver.proofs.LawsFrames.{fair, refused-number}
 use Rattle.receiver.proofs.LawsKinds.{consecutive-is}
-use Rattle.receiver.proofs.LawsRungs.{refused-exactly, followed-exactly}
+use Rattle.receiver.proofs.LawsRungs.{refused-exactly, next-number, followed-exactly}
 use Rattle.receiver.proofs.LawsReceived.{Ready, received-is}
 
-module _ (n : Node) (buffer : List ℕ) (own : Position) (ready : Ready n (length buffer) own) (identifier : ℕ) (bytes : List ℕ) (stamp : ℕ) where
+module _ (own : Position) (n : Node) (identifier : ℕ) (bytes : List ℕ) (stamp : ℕ) where
   abbrev frame : Judged
   frame = judgedOf own (n .unit) identifier bytes
 
   abbrev outcomeBy : Judged → Outcome
   outcomeBy j = stepOf (receptionAt n (judgedPlace j)) j (length bytes) stamp .outcome
 
-  abbrev received : Outcome
-  received = receivedOf n buffer identifier bytes stamp .outcome
-
-  received-by : received ≡ outcomeBy frame
-  received-by = ap (λ (r : Received). r .outcome) (received-is n buffer own (n .unit) (ready .sound) (ready .fits) (ready .at) refl identifier bytes stamp)
-
-  -- ---- 2 to 10 and 12 to 14
+  -- ---- what the step of a judged frame refuses: 2 to 10 and 12 to 14, each where it is due
   not-single : (r : Reception) (p : Position) (functional : Bool) (L : ℕ) (why : Refusal) → pick functional (kept r (Single p functional L)) (shut (Single p functional L)) .outcome ≡ Refused why → ⊥
   unfolding pick shut kept
   not-single r p true L why = λ (e : Single p true L ≡ Refused why). let z : _≡_ {A = ℕ} 0 1 = cc in omega arith
@@ -63,5 +59,18 @@ module _ (n : Node) (buffer : List ℕ) (own : Position) (ready : Ready n (lengt
   so-refused why (by-reception {p} {number} a c x) =
       ap outcomeBy (consecutive-is own (n .unit) identifier bytes p number .1 (a, c)) ∙ followed-exactly _ p number (length bytes) stamp why .1 x
 
-  pub refuses-exactly : (why : Refusal) → received ≡ Refused why ↔ Refuses own n identifier bytes stamp why
-  refuses-exactly why = (λ e. which why frame refl (sym received-by ∙ e), λ x. received-by ∙ so-refused why x)
+  pub step-refuses : (why : Refusal) → outcomeBy frame ≡ Refused why ↔ Refuses own n identifier bytes stamp why
+  step-refuses why = (which why frame refl, so-refused why)
+
+  -- none of them is 1
+  pub refuses-number : {why : Refusal} → Refuses own n identifier bytes stamp why → 2 ≤ numberOf why
+  refuses-number {why} (by-itself x) = refused-number own (n .unit) identifier bytes why (refused-exactly own (n .unit) identifier bytes why .1 x) .0
+  refuses-number (by-reception {p} {number} a c x) = omega (arith, next-number (receptionAt n (placeOf p)) p number (length bytes) stamp x)
+
+  -- ---- and of every node that keeps its rules, held with a buffer of 1,536 bytes
+  module _ (buffer : List ℕ) (ready : Ready n (length buffer) own) where
+    received-by : receivedOf n buffer identifier bytes stamp .outcome ≡ outcomeBy frame
+    received-by = ap (λ (r : Received). r .outcome) (received-is n buffer own (n .unit) (ready .sound) (ready .fits) (ready .at) refl identifier bytes stamp)
+
+    pub refuses-exactly : (why : Refusal) → receivedOf n buffer identifier bytes stamp .outcome ≡ Refused why ↔ Refuses own n identifier bytes stamp why
+    refuses-exactly why = (λ e. step-refuses why .0 (sym received-by ∙ e), λ x. received-by ∙ step-refuses why .1 x)

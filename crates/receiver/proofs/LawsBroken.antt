@@ -14,23 +14,17 @@ use Rattle.identifiers.specs.Refusals.{refusal}
 use Rattle.identifiers.proofs.LawsChoice.{pick-true, pick-false, both-false, stop}
 use Rattle.identifiers.proofs.LawsBelow.{all-not, all-fails}
 use Rattle.readings.specs.Positions.{trailerAt}
-use Rattle.readings.specs.declared.position.Position.{Position}
 use Rattle.readings.specs.declared.position.Vehicle.{Vehicle}
 use Rattle.readings.specs.declared.position.Vehicle.the-variants.{At, NoVehicle}
 use Rattle.readings.proofs.LawsPositions.{trailer-none}
 use Rattle.receiver.specs.declared.reception.Reception.{Reception}
 use Rattle.receiver.specs.declared.node.Node.{Node}
-use Rattle.receiver.specs.declared.frame.Judged.{Judged}
-use Rattle.receiver.specs.declared.frame.Judged.the-variants as judged
-use Rattle.receiver.specs.declared.step.Step.{Step}
-use Rattle.receiver.specs.declared.step.Outcome.the-variants.{Refused, OverLong, Opened, Single}
+use Rattle.receiver.specs.declared.step.Outcome.the-variants.{Refused}
 use Rattle.receiver.specs.Receptions.{soundReception}
 use Rattle.receiver.specs.Nodes.{receptionAt, soundNode}
-use Rattle.receiver.specs.Frames.{judgedOf}
-use Rattle.receiver.specs.Steps.{kept, shut, opened, followed, stepOf, stepBy, ownOf, receivedBy, receivedAt, receivedOf}
+use Rattle.receiver.specs.Steps.{stepBy, ownOf, receivedBy, receivedAt, receivedOf}
 use Rattle.receiver.specs.Names.{BrokenReception, closed-with-frames, closed-with-stamp, under-seven, none-left, Broken, not-a-trailer, past-the-last, broken-reception, other-room}
-use Rattle.receiver.proofs.LawsFrames.{refused-number}
-use Rattle.receiver.proofs.LawsRungs.{followed-exactly, next-number}
+use Rattle.receiver.proofs.EachRefusal.{step-refuses, refuses-number}
 
 -- ---- a reception
 which-broken : (r : Reception) (none frames stamp seven left : Bool) → eqb (r .length) 0 ≡ none → eqb (r .taken) 0 ≡ frames → eqb (r .last) 0 ≡ stamp → leb 7 (r .length) ≡ seven
@@ -80,32 +74,11 @@ module _ (n : Node) (buffer : List ℕ) where
   no-own (other-room h) = pick-false _ _ (ap (both _) (ne-eqb _ _ h) ∙ both-false _)
 
   -- ---- a frame that is judged is never refused with 1
-  abbrev NotOne : Step → Type 0
-  NotOne s = s .outcome ≡ Refused (refusal 1) → ⊥
-
-  single-not-1 : (r : Reception) (from : Position) (functional : Bool) (L : ℕ) → NotOne (pick functional (kept r (Single from functional L)) (shut (Single from functional L)))
-  unfolding pick shut kept
-  single-not-1 r from true L = λ (e : Single from true L ≡ Refused (refusal 1)). let z : _≡_ {A = ℕ} 0 1 = cc in omega arith
-  single-not-1 r from false L = λ (e : Single from false L ≡ Refused (refusal 1)). let z : _≡_ {A = ℕ} 0 1 = cc in omega arith
-
   module _ (identifier : ℕ) (bytes : List ℕ) (stamp : ℕ) where
-    step-not-1 : (own : Position) (r : Reception) (j : Judged) → judgedOf own (n .unit) identifier bytes ≡ j → NotOne (stepOf r j (length bytes) stamp)
-    unfolding stepOf opened shut kept
-    step-not-1 own r (judged.Refused why) f =
-        λ (e : Refused why ≡ Refused (refusal 1)).
-        let same : why ≡ refusal 1 = cc in
-        omega (arith, refused-number own (n .unit) identifier bytes (refusal 1) (f ∙ ap judged.Refused same) .0)
-    step-not-1 own r (judged.Single from functional L) f = single-not-1 r from functional L
-    step-not-1 own r (judged.First from L) f = λ (e : Opened from ≡ Refused (refusal 1)). let z : _≡_ {A = ℕ} 0 1 = cc in omega arith
-    step-not-1 own r (judged.OverLong from) f = λ (e : OverLong from ≡ Refused (refusal 1)). let z : _≡_ {A = ℕ} 0 1 = cc in omega arith
-    step-not-1 own r (judged.Consecutive from number) f =
-        λ (e : followed r from number (length bytes) stamp .outcome ≡ Refused (refusal 1)).
-        omega (arith, next-number r from number (length bytes) stamp (followed-exactly r from number (length bytes) stamp (refusal 1) .0 e))
-
     none-of : (v : Vehicle) → receivedAt n identifier bytes stamp v .outcome ≡ Refused (refusal 1) → v ≡ NoVehicle
     unfolding receivedAt receivedBy stepBy
     none-of NoVehicle e = refl
-    none-of (At own) e = absurd (step-not-1 own _ _ refl e)
+    none-of (At own) e = absurd (omega (arith, refuses-number own n identifier bytes stamp (step-refuses own n identifier bytes stamp (refusal 1) .0 e)))
 
     -- of every node, buffer and frame
     pub refused-1 : receivedOf n buffer identifier bytes stamp .outcome ≡ Refused (refusal 1) ↔ Broken n buffer

@@ -7,12 +7,12 @@ pub mod LawsCutter
 pub mod LawsFrames
 pub mod LawsKinds
 pub mod LawsRungs
-pub mod LawsBroken
 pub mod LawsFollowed
 pub mod LawsSteps
 pub mod LawsGiven
 pub mod LawsOthers
 pub mod LawsReceived
 pub mod EachRefusal
+pub mod LawsBroken
 pub mod LawsShown
 pub mod OneFrame
