@@ -36,11 +36,12 @@ use Rattle.receiver.specs.declared.step.Outcome.{Outcome}
 use Rattle.receiver.specs.declared.step.Outcome.the-variants as outcome
 use Rattle.server.specs.Mask.{maskKept}
 use Rattle.server.specs.Places as places
-use Rattle.server.specs.Trailer.{ascending, codesBelow, statusWithin, statusesWithin, lengthsWithin, soundFields, soundRecord}
-use Rattle.server.specs.Faults.{matches, listed, countListed, twoBytes, codeAndStatus, listedAt, reportOf, groupHeld, inGroup, clearedBelow}
-use Rattle.server.specs.DataIdentifiers.{askedCount, askedAt, dataAt, dataOf, identifierAndData, answerTo, answerAt, answersOf}
-use Rattle.server.specs.Requests.{serviceOf, subFunctionOf, maskOf, groupOf, knownService, hasSubFunction, knownSubFunction, rightLength, formOf, suppressed, quietCode, silentOn}
-use Rattle.server.specs.Server.{faultsOf, contentOf14, contentOf19, contentOf22, contentFields, negativeFields, negativeOf, negativeBytes, positiveFields, positiveOf, statusesAfter, withStatuses, wrongLengths, outcomeOf}
+use Rattle.server.specs.Trailer.{ascending, codesBelow, statusWithin, statusesWithin, lengthWithin, lengthsWithin, soundRecord}
+use Rattle.server.specs.Faults.{matches, listed, countListed, twoBytes, codeAndStatus, reported, reportOf, groupHeld, inGroup, storedBelow, clearedOf}
+use Rattle.server.specs.DataIdentifiers.{askedCount, askedAt, dataOf, identifierAndData, answerTo, answersOf}
+use Rattle.server.specs.Requests.{serviceOf, subFunctionOf, silencing, maskOf, groupOf, sized, formOf14, formOf19, formOf22, formOf3E, requestBy, requestOf}
+use Rattle.server.specs.Silence.{silenced, quietCode, silentOn}
+use Rattle.server.specs.Server.{contentOf14, contentOf19, contentOf22, negativeOf, negativeBytes, positiveOf, changedBy, wrongLengths, answered as answeredTo, outcomeOf}
 use Rattle.server.specs.declared.trailer.TrailerRecord.{TrailerRecord}
 use Rattle.server.specs.declared.serving.Answer.{Answer}
 use Rattle.server.specs.declared.serving.Answer.the-variants.{Silent, Sent}
@@ -154,7 +155,7 @@ pub record Worked : Type 0 where
   pub short-bytes : response (0x3E ∷ []) ≡ 0x7F ∷ 0x3E ∷ 0x13 ∷ replicate 252 0xAA
 
 pub worked : Worked
-unfolding round pick both either allBelow countBelow listBelow written formula reservedBit fieldsOf frameRead readOf writtenAs targetOf fraction kinds.kindOf kinds.highByte kinds.wholeOf addresses addressOf positions vehicleAmong vehicleOf positionAt trailerAt successorOf nextOf takenAs takenAfter bare valued inRange measuredBy measuredAs parameterOf soundReception receptionAt withReception soundNode freshNode singleOf firstLength firstOf kindOf unitIs diagnostic destinationOf addressedFrom addressedOf judgedRead judgedOf gapOf regionAt kept shut opened doneOf leftOf takenStep followed stepOf stepBy ownOf receivedBy receivedAt receivedOf writtenBy bufferAt bufferAfter shownOf framesOf noFrame physicalTo framedAs framed headed pieceOf between cutOf size offered handed handedAt requests maskKept places.firstBelow places.placeOf places.heldAmong ascending codesBelow statusWithin statusesWithin lengthsWithin soundFields soundRecord matches listed countListed twoBytes codeAndStatus listedAt reportOf groupHeld inGroup clearedBelow askedCount askedAt dataAt dataOf identifierAndData answerTo answerAt answersOf serviceOf subFunctionOf maskOf groupOf knownService hasSubFunction knownSubFunction rightLength formOf suppressed quietCode silentOn faultsOf contentOf14 contentOf19 contentOf22 contentFields negativeFields negativeOf negativeBytes positiveFields positiveOf statusesAfter withStatuses wrongLengths outcomeOf
+unfolding round pick both either allBelow countBelow listBelow written formula reservedBit fieldsOf frameRead readOf writtenAs targetOf fraction kinds.kindOf kinds.highByte kinds.wholeOf addresses addressOf positions vehicleAmong vehicleOf positionAt trailerAt successorOf nextOf takenAs takenAfter bare valued inRange measuredBy measuredAs parameterOf soundReception receptionAt withReception soundNode freshNode singleOf firstLength firstOf kindOf unitIs diagnostic destinationOf addressedFrom addressedOf judgedRead judgedOf gapOf regionAt kept shut opened doneOf leftOf takenStep followed stepOf stepBy ownOf receivedBy receivedAt receivedOf writtenBy bufferAt bufferAfter shownOf framesOf noFrame physicalTo framedAs framed headed pieceOf between cutOf size offered handed handedAt requests maskKept places.firstBelow places.placeOf places.heldAmong ascending codesBelow statusWithin statusesWithin lengthWithin lengthsWithin soundRecord matches listed countListed twoBytes codeAndStatus reported reportOf groupHeld inGroup storedBelow clearedOf askedCount askedAt dataOf identifierAndData answerTo answersOf serviceOf subFunctionOf silencing maskOf groupOf sized formOf14 formOf19 formOf22 formOf3E requestBy requestOf silenced quietCode silentOn contentOf14 contentOf19 contentOf22 negativeOf negativeBytes positiveOf changedBy wrongLengths answeredTo outcomeOf
 worked =
     record {
       identifier = refl;

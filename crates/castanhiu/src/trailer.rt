@@ -1,4 +1,4 @@
-// The trailer record: checked by value; served and set where it is lent.
+// The trailer record: checked by value; served and set where it is lent, of which only the statuses can change.
 ghost use mathlib.Core.Path.{_≡_};
 ghost use Rattle.server.specs.Server.{outcomeOf};
 ghost use Rattle.server.specs.Status.{settingOf};
@@ -9,8 +9,8 @@ use server::RecordCheckedTold;
 use server::StatusAnswerTold;
 use server::TrailerRecord;
 use server::check;
-use server::serve_lent;
-use server::set_status_lent;
+use server::serve;
+use server::set_status;
 
 #[no_mangle]
 pub extern "C" fn castanhiu_record_check(record: TrailerRecord) -> RecordCheckedTold
@@ -30,7 +30,9 @@ pub extern "C" fn castanhiu_serve(
         × ((r ≡ answerTold (outcomeOf (now («record» .entry)) (now (request .entry)) functional (now (response .entry)) .answer))
         × (now (response .exit) ≡ outcomeOf (now («record» .entry)) (now (request .entry)) functional (now (response .entry)) .response)) ⌝ }
 {
-    serve_lent(record, request, functional, response).told()
+    let served = serve(*record, request, functional, response);
+    record.statuses = served.statuses;
+    served.answer.told()
 }
 
 #[no_mangle]
@@ -42,5 +44,7 @@ pub extern "C" fn castanhiu_set_status(
     ensures { λ r. ⌜ (now («record» .exit) ≡ settingOf (now («record» .entry)) code status .after)
         × (r ≡ statusTold (settingOf (now («record» .entry)) code status .answer)) ⌝ }
 {
-    set_status_lent(record, code, status).told()
+    let set = set_status(*record, code, status);
+    record.statuses = set.statuses;
+    set.answer.told()
 }

@@ -122,7 +122,9 @@ fn set(record: TrailerRecord, code: u32, status: u8) {
     if refused(told.refusal) {
         return;
     }
-    let after = done.record;
+    let mut after = record;
+    let statuses = done.statuses;
+    after.statuses = statuses;
     asked(b"done", after, b"\x19\x0A", false);
 }
 

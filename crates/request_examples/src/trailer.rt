@@ -73,6 +73,8 @@ pub fn asked(name: &[u8], record: TrailerRecord, request: &[u8], functional: boo
     let served = serve(record, request, functional, &mut response);
     let answer = served.answer;
     answered(answer.told(), &response);
-    let after = served.record;
+    let mut after = record;
+    let statuses = served.statuses;
+    after.statuses = statuses;
     after
 }

@@ -1,7 +1,7 @@
--- Laws of the fault codes: what is listed and how long it is, and what is cleared, place by place.
+-- Laws of the fault codes: what is listed and how long it is, and the loop that stores.
 use mathlib.Core.Path.{_≡_, refl, ap}
 use mathlib.Core.Bool.{Bool, true, false, not}
-use mathlib.Core.List.{List, [], _++_}
+use mathlib.Core.List.{List, []}
 use mathlib.Core.Logic.{_≢_, _↔_}
 use Prim.Native.Nat.{ℕ, zero, suc, _+_, _*_, _≤_}
 use native.Mathlib.Numerals.{add-one}
@@ -10,49 +10,57 @@ use borrow.Author.Tests.{eqb-false, ne-eqb, not-true}
 use lib.Bits.{bitAnd}
 use lib.ListN.{getD, set, length, length-append}
 use Rattle.identifiers.specs.Choice.{pick}
+use Rattle.identifiers.specs.Below.{countBelow, listBelow}
+use Rattle.identifiers.proofs.LawsChoice.{taken, pick-false}
 use Rattle.identifiers.proofs.LawsBelow.{count-none, count-suc, count-le, list-none, list-suc}
-use Rattle.server.specs.Faults.{matches, listed, countListed, codeAndStatus, listedAt, reportOf, inGroup, clearedBelow}
+use Rattle.server.specs.Faults.{matches, listed, countListed, codeAndStatus, reported, reportOf, storedBelow}
+use Rattle.server.specs.declared.trailer.TrailerRecord.{TrailerRecord}
 
 -- "Match: status AND mask is not 0."
 pub matches-exactly : (status mask : ℕ) → matches status mask ≡ true ↔ (bitAnd status mask ≢ 0)
 unfolding matches
 matches-exactly status mask = (λ e. eqb-false _ _ (not-true _ e), λ n. ap not (ne-eqb _ _ n))
 
-pub listed-hit : (codes statuses : List ℕ) (all : Bool) (mask i : ℕ) → listed all mask (getD statuses i 0) ≡ true → codeAndStatus (getD codes i 0) (getD statuses i 0) ≡ listedAt codes statuses all mask i
-unfolding listedAt pick
-listed-hit codes statuses all mask i e = rw e
+pub reported-hit : (all : Bool) (mask code status : ℕ) → listed all mask status ≡ true → codeAndStatus code status ≡ reported all mask code status
+unfolding reported
+reported-hit all mask code status e = taken _ e refl
 
-pub listed-miss : (codes statuses : List ℕ) (all : Bool) (mask i : ℕ) → listed all mask (getD statuses i 0) ≡ false → listedAt codes statuses all mask i ≡ []
-unfolding listedAt pick
-listed-miss codes statuses all mask i e = rw e
-
-four : (b : Bool) (xs ys : List ℕ) (m : ℕ) → length ys ≡ 4 → length xs ≡ 4 * m → length (xs ++ pick b ys []) ≡ 4 * pick b (m + 1) m
-unfolding pick
-four true xs ys m h e = omega (arith, length-append xs ys)
-four false xs ys m h e = omega (arith, length-append xs [])
+pub reported-miss : (all : Bool) (mask code status : ℕ) → listed all mask status ≡ false → reported all mask code status ≡ []
+unfolding reported
+reported-miss all mask code status e = pick-false _ _ e
 
 -- a report has four bytes for each code that is listed
-pub length-report : (codes statuses : List ℕ) (all : Bool) (mask n : ℕ) → length (reportOf codes statuses all mask n) ≡ 4 * countListed statuses all mask n
-unfolding reportOf countListed listedAt codeAndStatus
-length-report codes statuses all mask zero = rw (list-none, count-none)
-length-report codes statuses all mask (suc n) =
-    rw (list-suc, count-suc)
-    (four (listed all mask (getD statuses n 0)) (reportOf codes statuses all mask n) (codeAndStatus (getD codes n 0) (getD statuses n 0)) (countListed statuses all mask n) refl
-    (length-report codes statuses all mask n))
+four : (all : Bool) (mask code status m : ℕ) → 4 * m + length (reported all mask code status) ≡ 4 * pick (listed all mask status) (m + 1) m
+unfolding reported codeAndStatus pick
+four all mask code status m = by (listed all mask status)
+  where
+    by : (b : Bool) → 4 * m + length (pick b (codeAndStatus code status) []) ≡ 4 * pick b (m + 1) m
+    by true = omega arith
+    by false = omega arith
 
-pub count-listed-le : (statuses : List ℕ) (all : Bool) (mask n : ℕ) → countListed statuses all mask n ≤ n
+length-below : (codes statuses : List ℕ) (all : Bool) (mask n : ℕ)
+    → length (listBelow (λ i. reported all mask (getD codes i 0) (getD statuses i 0)) n) ≡ 4 * countBelow (λ i. listed all mask (getD statuses i 0)) n
+length-below codes statuses all mask zero = rw (list-none, count-none)
+length-below codes statuses all mask (suc n) = rw (list-suc, count-suc, length-append, length-below codes statuses all mask n) (four _ _ _ _ _)
+
+pub length-report : (t : TrailerRecord) (all : Bool) (mask : ℕ) → length (reportOf t all mask) ≡ 4 * countListed t all mask
+unfolding reportOf countListed
+length-report t all mask = length-below (t .codes) (t .statuses) all mask (t .count)
+
+pub count-listed-le : (t : TrailerRecord) (all : Bool) (mask : ℕ) → countListed t all mask ≤ t .count
 unfolding countListed
-count-listed-le statuses all mask n = count-le _ n
+count-listed-le t all mask = count-le _ (t .count)
 
--- ---- clearing
-pub clear-none : (codes statuses : List ℕ) (group status : ℕ) → clearedBelow codes statuses group status 0 ≡ statuses
-unfolding clearedBelow
-clear-none codes statuses group status = refl
+-- ---- a loop that stores one status at the places that have p
+module _ (p : ℕ → Bool) (status : ℕ) (statuses : List ℕ) where
+  pub stored-none : storedBelow p status statuses 0 ≡ statuses
+  unfolding storedBelow
+  stored-none = refl
 
-pub clear-hit : (codes statuses : List ℕ) (group status n : ℕ) → inGroup group (getD codes n 0) ≡ true → set (clearedBelow codes statuses group status n) n status ≡ clearedBelow codes statuses group status (n + 1)
-unfolding clearedBelow pick
-clear-hit codes statuses group status n e = rw (add-one n, e)
+  pub stored-hit : (n : ℕ) → p n ≡ true → set (storedBelow p status statuses n) n status ≡ storedBelow p status statuses (n + 1)
+  unfolding storedBelow pick
+  stored-hit n e = rw (add-one n, e)
 
-pub clear-miss : (codes statuses : List ℕ) (group status n : ℕ) → inGroup group (getD codes n 0) ≡ false → clearedBelow codes statuses group status n ≡ clearedBelow codes statuses group status (n + 1)
-unfolding clearedBelow pick
-clear-miss codes statuses group status n e = rw (add-one n, e)
+  pub stored-miss : (n : ℕ) → p n ≡ false → storedBelow p status statuses n ≡ storedBelow p status statuses (n + 1)
+  unfolding storedBelow pick
+  stored-miss n e = rw (add-one n, e)

@@ -1,11 +1,14 @@
--- The mask rule, both ways, in the rule's own bits.
-use mathlib.Core.Path.{_≡_, refl, sym, ap}
+-- The mask rule, both ways, in the rule's own bits, and a mask after a mask.
+use mathlib.Core.Path.{_≡_, refl, sym, ap, ap₂, _∙_}
 use mathlib.Core.Bool.{Bool, true, false, not}
 use mathlib.Core.Logic.{_≢_, _↔_, _⊎_, inl, inr}
-use Prim.Native.Nat.{ℕ}
+use Prim.Native.Nat.{ℕ, _+_, _*_, _/_, _%_, min}
+use native.Mathlib.Nat.{min-le-left}
+use native.Mathlib.Omega.{arith}
 use borrow.Author.Tests.{eqb-true, eqb-false, eq-eqb, ne-eqb, not-true}
 use lib.Dec.{eqb}
-use lib.Bits.{bitAnd}
+use lib.Arith.{bin-ind}
+use lib.Bits.{bitAnd, and-step, and-shr}
 use Rattle.identifiers.specs.Choice.{either}
 use Rattle.identifiers.proofs.LawsChoice.{both-true, so, left-holds, right-holds}
 use Rattle.server.specs.Mask.{maskKept}
@@ -32,3 +35,14 @@ mask-rule mask = (
       (eqb-true _ _ (b .0), (eqb-false _ _ (not-true _ (b .1)), one-or-other _ _ _ (a .1))),
   λ r. sym (so (sym (so (eq-eqb _ _ (r .0)) (sym (ap not (ne-eqb _ _ (r .1 .0)))))) (other-or-one _ _ _ (r .1 .1))),
 )
+
+-- ---- a mask after a mask
+low-bit : (a b : ℕ) → bitAnd a b % 2 ≡ min (a % 2) (b % 2)
+low-bit a b = omega (arith, and-step a b, min-le-left (a % 2) (b % 2))
+
+pub and-assoc : (a b c : ℕ) → bitAnd (bitAnd a b) c ≡ bitAnd a (bitAnd b c)
+and-assoc a = bin-ind (λ (n : ℕ). (b c : ℕ) → bitAnd (bitAnd n b) c ≡ bitAnd n (bitAnd b c)) (λ b c. refl)
+    (λ n ih b c. and-step (bitAnd n b) c
+    ∙ ap₂ (λ (x y : ℕ). x * 2 + y) (ap (λ (x : ℕ). bitAnd x (c / 2)) (and-shr n b 1) ∙ ih (b / 2) (c / 2) ∙ ap (bitAnd (n / 2)) (sym (and-shr b c 1)))
+    (omega (arith, low-bit n b, low-bit b c))
+    ∙ sym (and-step n (bitAnd b c))) a

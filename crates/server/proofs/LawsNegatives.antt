@@ -1,145 +1,119 @@
--- The negative code of a request by its bytes: which form and which content has which code.
-use mathlib.Core.Path.{_≡_, refl, sym, ap, _∙_}
-use mathlib.Core.Bool.{false, not}
+-- The negative code of a request, and why it has that one: by how it is read, and then by its content.
+use mathlib.Core.Path.{_≡_, refl, sym, ap, subst, _∙_}
+use mathlib.Core.Bool.{Bool, true, false}
 use mathlib.Core.List.{List}
 use mathlib.Core.Logic.{_≢_}
 use Prim.Native.Nat.{ℕ, _+_, _*_, _%_, _≤_}
 use native.Mathlib.Omega.{arith}
-use borrow.Author.Tests.{eq-eqb, ne-eqb, lt-ltb, le-ltb, le-leb, lt-leb}
-use lib.Dec.{eqb, ltb, leb}
+use borrow.Author.Tests.{eqb-false, ne-eqb, ltb-true, lt-ltb}
+use lib.Dec.{eqb, ltb}
 use lib.ListN.{getD, length}
-use Rattle.identifiers.specs.Choice.{pick, both, either}
-use Rattle.identifiers.proofs.LawsChoice.{pick-true, pick-false, both-false, stop, so}
-use Rattle.server.specs.Faults.{groupHeld}
+use Rattle.identifiers.specs.Choice.{either}
+use Rattle.identifiers.proofs.LawsChoice.{pick-true, pick-false, either-false}
+use Rattle.server.specs.Trailer.{soundRecord}
+use Rattle.server.specs.Faults.{reportOf, groupHeld}
 use Rattle.server.specs.DataIdentifiers.{askedCount, askedAt, answersOf}
-use Rattle.server.specs.Requests.{serviceOf, subFunctionOf, groupOf, knownService, hasSubFunction, knownSubFunction, rightLength, formOf}
-use Rattle.server.specs.Server.{contentOf14, contentOf19, contentOf22, contentFields, negativeFields, negativeOf}
-use Rattle.server.specs.Negatives.{UnknownService, no-service, TooShort, short-19, short-3E, UnknownSubFunction, unknown-19, unknown-3E, WrongLength, not-4, not-3-of-01, not-3-of-02, not-2-of-0A, under-3, even, not-2-of-00, NotHeld, no-code, no-identifier, TooLong, over-255}
+use Rattle.server.specs.Requests.{requestOf}
+use Rattle.server.specs.Forms.{UnknownService, TooShort, UnknownSubFunction, WrongLength, Reads, unknown-service, too-short, unknown-sub-function, wrong-length, clear-group, count-by-mask, list-by-mask, list-all, read-data, tester-present}
+use Rattle.server.specs.Server.{contentOf14, contentOf19, contentOf22, negativeOf}
+use Rattle.server.specs.Negatives.{NotHeld, no-code, no-identifier, TooLong, over-255}
 use Rattle.server.specs.declared.trailer.TrailerRecord.{TrailerRecord}
-use Rattle.server.proofs.LawsPlaces.{held-nowhere}
-use Rattle.server.proofs.Demand2Services.{none-held-31}
+use Rattle.server.specs.declared.requests.Request.{Request}
+use Rattle.server.proofs.LawsPlaces.{not-held, held-nowhere}
+use Rattle.server.proofs.LawsTrailer.{sound-has}
+use Rattle.server.proofs.LawsRequests.{reads, reads-exactly}
+use Rattle.server.proofs.LawsServer.{content-fits}
+use Rattle.server.proofs.Demand2Services.{none-held-31, only-none-held-31}
 
--- ---- the form, by service, sub-function and length
-formBy : ℕ → ℕ → ℕ → ℕ
-formBy service sub n =
-    pick (not (knownService service)) 0x11
-    (pick (both (hasSubFunction service) (ltb n 2)) 0x13
-    (pick (both (hasSubFunction service) (not (knownSubFunction service sub))) 0x12
-    (pick (not (rightLength service sub n)) 0x13 0)))
-
--- 19 01 and 19 02 have length 3, 19 0A and 3E 00 length 2
-pub data Known : ℕ → ℕ → ℕ → Type 0 where
-  known-01 : Known 0x19 0x01 3
-  known-02 : Known 0x19 0x02 3
-  known-0A : Known 0x19 0x0A 2
-  known-00 : Known 0x3E 0x00 2
-
--- a sub-function that is known: the length decides
-known-by : {service sub n : ℕ} → Known service sub n → (m : ℕ) → ltb m 2 ≡ false → formBy service sub m ≡ pick (not (eqb m n)) 0x13 0
-unfolding formBy knownService hasSubFunction knownSubFunction rightLength pick both either
-known-by known-01 m e = rw e
-known-by known-02 m e = rw e
-known-by known-0A m e = rw e
-known-by known-00 m e = rw e
-
-module _ (q : List ℕ) where
-  form-by : formOf q ≡ formBy (getD q 0 0) (getD q 1 0 % 128) (length q)
-  unfolding formOf formBy serviceOf subFunctionOf
-  form-by = refl
-
-  form-at : {service : ℕ} → getD q 0 0 ≡ service → formOf q ≡ formBy service (getD q 1 0 % 128) (length q)
-  form-at s = form-by ∙ ap (λ (x : ℕ). formBy x (getD q 1 0 % 128) (length q)) s
-
-  form-11 : UnknownService q → formOf q ≡ 0x11
-  unfolding formOf serviceOf knownService either
-  form-11 (no-service a b c d) = pick-true _ _ (rw (ne-eqb _ _ a, ne-eqb _ _ b, ne-eqb _ _ c, ne-eqb _ _ d))
-
-  form-short : TooShort q → formOf q ≡ 0x13
-  unfolding formBy knownService hasSubFunction pick both either
-  form-short (short-19 s l) = form-at s ∙ rw (lt-ltb (length q) 2 l)
-  form-short (short-3E s l) = form-at s ∙ rw (lt-ltb (length q) 2 l)
-
-  form-12 : UnknownSubFunction q → formOf q ≡ 0x12
-  unfolding formBy knownService hasSubFunction knownSubFunction pick both either
-  form-12 (unknown-19 s l a b c) = form-at s ∙ rw (le-ltb (length q) 2 l, ne-eqb (getD q 1 0 % 128) 0x01 a, ne-eqb (getD q 1 0 % 128) 0x02 b, ne-eqb (getD q 1 0 % 128) 0x0A c)
-  form-12 (unknown-3E s l a) = form-at s ∙ rw (le-ltb (length q) 2 l, ne-eqb (getD q 1 0 % 128) 0x00 a)
-
-  form-known : {service sub n : ℕ} → Known service sub n → getD q 0 0 ≡ service → getD q 1 0 % 128 ≡ sub → 2 ≤ length q → formOf q ≡ pick (not (eqb (length q) n)) 0x13 0
-  form-known {service} k s u l = form-at s ∙ ap (λ (x : ℕ). formBy service x (length q)) u ∙ known-by k (length q) (le-ltb (length q) 2 l)
-
-  form-14 : getD q 0 0 ≡ 0x14 → formOf q ≡ pick (not (eqb (length q) 4)) 0x13 0
-  unfolding formBy knownService hasSubFunction rightLength pick both either
-  form-14 s = form-at s
-
-  form-22 : getD q 0 0 ≡ 0x22 → formOf q ≡ pick (not (both (leb 3 (length q)) (eqb (length q % 2) 1))) 0x13 0
-  unfolding formBy knownService hasSubFunction rightLength pick both either
-  form-22 s = form-at s
-
-  form-13 : WrongLength q → formOf q ≡ 0x13
-  form-13 (not-4 s n) = form-14 s ∙ pick-true _ _ (ap not (ne-eqb _ _ n))
-  form-13 (not-3-of-01 s l u n) = form-known known-01 s u l ∙ pick-true _ _ (ap not (ne-eqb _ _ n))
-  form-13 (not-3-of-02 s l u n) = form-known known-02 s u l ∙ pick-true _ _ (ap not (ne-eqb _ _ n))
-  form-13 (not-2-of-0A s l u n) = form-known known-0A s u l ∙ pick-true _ _ (ap not (ne-eqb _ _ n))
-  form-13 (under-3 s l) = form-22 s ∙ pick-true _ _ (ap not (sym (stop _ (lt-leb _ _ l))))
-  form-13 (even s e) = form-22 s ∙ pick-true _ _ (ap not (ap (both (leb 3 (length q))) (ne-eqb (length q % 2) 1 (λ z. omega arith)) ∙ both-false _))
-  form-13 (not-2-of-00 s l u n) = form-known known-00 s u l ∙ pick-true _ _ (ap not (ne-eqb _ _ n))
-
-  -- and the right lengths have none of them
-  pub form-4 : getD q 0 0 ≡ 0x14 → length q ≡ 4 → formOf q ≡ 0
-  form-4 s n = form-14 s ∙ pick-false _ _ (ap not (eq-eqb _ _ n))
-
-  pub form-odd : getD q 0 0 ≡ 0x22 → 3 ≤ length q → length q % 2 ≡ 1 → formOf q ≡ 0
-  form-odd s l o = form-22 s ∙ pick-false _ _ (ap not (sym (so (le-leb _ _ l) (sym (eq-eqb _ _ o)))))
-
-  pub form-right : {service sub n : ℕ} → Known service sub n → getD q 0 0 ≡ service → getD q 1 0 % 128 ≡ sub → 2 ≤ length q → length q ≡ n → formOf q ≡ 0
-  form-right k s u l n = form-known k s u l ∙ pick-false _ _ (ap not (eq-eqb _ _ n))
-
--- ---- the code: the form's, and where it has none the content's
+-- ---- where a code is due it is given
 module _ (t : TrailerRecord) (q : List ℕ) where
-  by-form : {c : ℕ} → formOf q ≡ c → c ≢ 0 → negativeOf t q ≡ c
-  unfolding negativeOf negativeFields
-  by-form e n = pick-false _ _ (ne-eqb _ _ (λ z. n (sym e ∙ z))) ∙ e
+  pub by-reading : {asked : Request} → Reads q asked → negativeOf t (requestOf q) q ≡ negativeOf t asked q
+  by-reading d = ap (λ (r : Request). negativeOf t r q) (reads-exactly q _ .1 d)
 
-  by-content : formOf q ≡ 0 → negativeOf t q ≡ contentFields (t .codes) (t .statuses) (t .count) (t .identifiers) (t .lengths) (t .bytes) (t .held) q
-  unfolding negativeOf negativeFields
-  by-content e = pick-true _ _ (eq-eqb _ _ e)
+  pub due-11 : UnknownService q → negativeOf t (requestOf q) q ≡ 0x11
+  unfolding negativeOf
+  due-11 u = by-reading (unknown-service u)
 
-  pub content-14 : getD q 0 0 ≡ 0x14 → formOf q ≡ 0 → negativeOf t q ≡ contentOf14 (t .codes) (t .count) q
-  unfolding contentFields serviceOf
-  content-14 s f = by-content f ∙ pick-true _ _ (eq-eqb _ _ s)
+  pub due-13-first : TooShort q → negativeOf t (requestOf q) q ≡ 0x13
+  unfolding negativeOf
+  due-13-first u = by-reading (too-short u)
 
-  pub content-19 : getD q 0 0 ≡ 0x19 → formOf q ≡ 0 → negativeOf t q ≡ contentOf19 (t .codes) (t .statuses) (t .count) q
-  unfolding contentFields serviceOf
-  content-19 s f = by-content f ∙ pick-false _ _ (ap (λ (x : ℕ). eqb x 0x14) s) ∙ pick-true _ _ (eq-eqb _ _ s)
+  pub due-12 : UnknownSubFunction q → negativeOf t (requestOf q) q ≡ 0x12
+  unfolding negativeOf
+  due-12 u = by-reading (unknown-sub-function u)
 
-  pub content-22 : getD q 0 0 ≡ 0x22 → formOf q ≡ 0 → negativeOf t q ≡ contentOf22 (t .identifiers) (t .lengths) (t .bytes) (t .held) q
-  unfolding contentFields serviceOf
-  content-22 s f = by-content f ∙ pick-false _ _ (ap (λ (x : ℕ). eqb x 0x14) s) ∙ pick-false _ _ (ap (λ (x : ℕ). eqb x 0x19) s) ∙ pick-true _ _ (eq-eqb _ _ s)
+  pub due-13 : WrongLength q → negativeOf t (requestOf q) q ≡ 0x13
+  unfolding negativeOf
+  due-13 u = by-reading (wrong-length u)
 
-  pub content-3E : getD q 0 0 ≡ 0x3E → formOf q ≡ 0 → negativeOf t q ≡ 0
-  unfolding contentFields serviceOf
-  content-3E s f = by-content f ∙ pick-false _ _ (ap (λ (x : ℕ). eqb x 0x14) s) ∙ pick-false _ _ (ap (λ (x : ℕ). eqb x 0x19) s) ∙ pick-false _ _ (ap (λ (x : ℕ). eqb x 0x22) s)
-
-  pub due-11 : UnknownService q → negativeOf t q ≡ 0x11
-  due-11 u = by-form (form-11 q u) (λ z. omega arith)
-
-  pub due-13-first : TooShort q → negativeOf t q ≡ 0x13
-  due-13-first u = by-form (form-short q u) (λ z. omega arith)
-
-  pub due-12 : UnknownSubFunction q → negativeOf t q ≡ 0x12
-  due-12 u = by-form (form-12 q u) (λ z. omega arith)
-
-  pub due-13 : WrongLength q → negativeOf t q ≡ 0x13
-  due-13 u = by-form (form-13 q u) (λ z. omega arith)
-
-  pub due-31 : NotHeld t q → negativeOf t q ≡ 0x31
-  unfolding contentOf14 groupHeld groupOf askedCount askedAt either
-  due-31 (no-code s n a h) = content-14 s (form-4 q s n) ∙ pick-false _ _ (rw (ne-eqb _ _ a, held-nowhere (t .codes) (t .count) _ h))
+  pub due-31 : NotHeld t q → negativeOf t (requestOf q) q ≡ 0x31
+  unfolding negativeOf contentOf14 groupHeld askedCount askedAt either
+  due-31 (no-code s n a h) = by-reading (clear-group s n) ∙ pick-false _ _ (rw (ne-eqb _ _ a, held-nowhere (t .codes) (t .count) _ h))
   due-31 (no-identifier s l o h) =
-      content-22 s (form-odd q s l o)
-      ∙ none-held-31 (t .identifiers) (t .lengths) (t .bytes) (t .held) q
-      (λ j b. held-nowhere (t .identifiers) (t .held) _ (λ k r e. h j k (omega arith) r (e ∙ ap (λ (i : ℕ). getD q (1 + 2 * j) 0 * 256 + getD q i 0) (omega arith))))
+      by-reading (read-data s l o) ∙ none-held-31 t q (λ j b. held-nowhere (t .identifiers) (t .held) _ (λ k r e. h j k (omega arith) r (e ∙ ap (λ (i : ℕ). getD q (1 + 2 * j) 0 * 256 + getD q i 0) (omega arith))))
 
-  pub due-14 : TooLong t q → negativeOf t q ≡ 0x14
-  unfolding contentOf22
-  due-14 (over-255 s l o h) = content-22 s (form-odd q s l o) ∙ pick-false _ _ (ne-eqb (length (answersOf (t .identifiers) (t .lengths) (t .bytes) (t .held) q)) 0 (λ z. omega arith)) ∙ pick-true _ _ (lt-ltb _ _ h)
+  pub due-14 : TooLong t q → negativeOf t (requestOf q) q ≡ 0x14
+  unfolding negativeOf contentOf22
+  due-14 (over-255 s l o h) = by-reading (read-data s l o) ∙ pick-false _ _ (ne-eqb (length (answersOf t q)) 0 (λ z. omega arith)) ∙ pick-true _ _ (lt-ltb _ _ h)
+
+-- ---- why a request has its code: 0 where there is none; a report is too long only where the record does not keep its rules
+pub data Why (t : TrailerRecord) (q : List ℕ) : ℕ → Type 0 where
+  form-11 : UnknownService q → Why t q 0x11
+  form-13-first : TooShort q → Why t q 0x13
+  form-12 : UnknownSubFunction q → Why t q 0x12
+  form-13 : WrongLength q → Why t q 0x13
+  content-31 : NotHeld t q → Why t q 0x31
+  content-14 : TooLong t q → Why t q 0x14
+  report-14 : soundRecord t ≢ true → Why t q 0x14
+  none : Why t q 0
+
+module _ (t : TrailerRecord) (q : List ℕ) where
+  at : {c d : ℕ} → c ≡ d → Why t q d → Why t q c
+  at e w = subst (Why t q) (sym e) w
+
+  abbrev group : ℕ
+  group = getD q 1 0 * 65536 + getD q 2 0 * 256 + getD q 3 0
+
+  of-group : getD q 0 0 ≡ 0x14 → length q ≡ 4 → Why t q (contentOf14 t group)
+  unfolding contentOf14 groupHeld
+  of-group s n = by (groupHeld t group) refl
+    where
+      by : (b : Bool) → groupHeld t group ≡ b → Why t q (contentOf14 t group)
+      by true h = at (pick-true _ _ h) none
+      by false h = let e = either-false _ _ h in at (pick-false _ _ h) (content-31 (no-code s n (eqb-false _ _ (e .0)) (not-held _ _ _ (e .1))))
+
+  -- a report has at most 255 bytes in a record that keeps its rules
+  of-report : (all : Bool) (mask : ℕ) → Why t q (contentOf19 t all mask)
+  unfolding contentOf19
+  of-report all mask = by (ltb 255 (3 + length (reportOf t all mask))) refl
+    where
+      by : (b : Bool) → ltb 255 (3 + length (reportOf t all mask)) ≡ b → Why t q (contentOf19 t all mask)
+      by false l = at (pick-false _ _ l) none
+      by true l = at (pick-true _ _ l) (report-14 (λ h. omega (arith, sym (pick-true 0x14 0 l) ∙ content-fits t all mask (sound-has t h .count))))
+
+  of-data : getD q 0 0 ≡ 0x22 → 3 ≤ length q → length q % 2 ≡ 1 → Why t q (contentOf22 t q)
+  unfolding contentOf22 askedCount askedAt
+  of-data s l o = by (eqb (length (answersOf t q)) 0) (ltb 255 (1 + length (answersOf t q))) refl refl
+    where
+      by : (a b : Bool) → eqb (length (answersOf t q)) 0 ≡ a → ltb 255 (1 + length (answersOf t q)) ≡ b → Why t q (contentOf22 t q)
+      by true b z h =
+          let c : contentOf22 t q ≡ 0x31 = pick-true _ _ z in
+          at c (content-31 (no-identifier s l o (λ j k b r e. not-held (t .identifiers) (t .held) (askedAt q j) (only-none-held-31 t q c j (omega arith)) k r (e ∙ ap (λ (i : ℕ). getD q (1 + 2 * j) 0 * 256 + getD q i 0) (omega arith)))))
+      by false true z h = at (pick-false _ _ z ∙ pick-true _ _ h) (content-14 (over-255 s l o (ltb-true _ _ h)))
+      by false false z h = at (pick-false _ _ z ∙ pick-false _ _ h) none
+
+  of-reading : {asked : Request} → Reads q asked → Why t q (negativeOf t asked q)
+  unfolding negativeOf
+  of-reading (unknown-service x) = form-11 x
+  of-reading (too-short x) = form-13-first x
+  of-reading (unknown-sub-function x) = form-12 x
+  of-reading (wrong-length x) = form-13 x
+  of-reading (clear-group s n) = of-group s n
+  of-reading (count-by-mask s u n) = none
+  of-reading (list-by-mask s u n) = of-report false (getD q 2 0)
+  of-reading (list-all s u n) = of-report true 0
+  of-reading (read-data s l o) = of-data s l o
+  of-reading (tester-present s u n) = none
+
+  pub why : {c : ℕ} → negativeOf t (requestOf q) q ≡ c → Why t q c
+  why e = subst (Why t q) e (of-reading (reads q))

@@ -1,5 +1,5 @@
 -- A record is taken for sound exactly where it keeps its rules, and is else refused with 1.
-use mathlib.Core.Path.{_≡_, sym}
+use mathlib.Core.Path.{_≡_}
 use mathlib.Core.Bool.{true}
 use mathlib.Core.List.{List}
 use mathlib.Core.Logic.{_↔_}
@@ -7,13 +7,13 @@ use Prim.Native.Nat.{ℕ, _+_, _-_, _<_}
 use native.Mathlib.Omega.{arith}
 use borrow.Author.Tests.{ltb-true, eqb-true, lt-ltb, le-leb, eq-eqb}
 use lib.ListN.{getD}
-use Rattle.identifiers.proofs.LawsChoice.{so}
+use Rattle.identifiers.specs.Choice.{both}
 use Rattle.identifiers.proofs.LawsBelow.{all-at, all-each}
-use Rattle.server.specs.Trailer.{ascending, codesBelow, statusWithin, statusesWithin, lengthsWithin, soundRecord, soundFields}
+use Rattle.server.specs.Trailer.{ascending, codesBelow, statusWithin, statusesWithin, lengthWithin, lengthsWithin, soundRecord}
 use Rattle.server.specs.Rules.{KeepsRules}
 use Rattle.server.specs.declared.trailer.TrailerRecord.{TrailerRecord}
 use Rattle.server.proofs.LawsMask.{mask-rule}
-use Rattle.server.proofs.LawsTrailer.{Sound, sound-has, length-within}
+use Rattle.server.proofs.LawsTrailer.{Sound, sound-has, sound-from, length-within}
 
 ascends : (numbers : List ℕ) (n : ℕ) → ascending numbers n ≡ true ↔ ((i : ℕ) → i + 1 < n → getD numbers i 0 < getD numbers (i + 1) 0)
 unfolding ascending
@@ -34,19 +34,22 @@ module _ (t : TrailerRecord) where
         mask-45 = m .1 .1;
         held = s .held;
         identifiers-ascend = ascends (t .identifiers) (t .held) .0 (s .identifiers);
-        lengths = λ k l. length-within (t .lengths) (t .held) k (s .lengths) l;
+        lengths = λ k. length-within t k (s .lengths);
       }
 
-  sound : KeepsRules t → soundRecord t ≡ true
-  unfolding soundRecord soundFields codesBelow statusesWithin statusWithin lengthsWithin
+  sound : KeepsRules t → Sound t
+  unfolding codesBelow statusesWithin statusWithin lengthsWithin lengthWithin both
   sound k =
-      let codes = all-each _ (t .count) (λ i l. lt-ltb _ _ (k .codes i l)) in
-      let statuses = all-each _ (t .count) (λ i l. eq-eqb _ _ (k .statuses i l)) in
-      let lengths = all-each _ (t .held) (λ i l. sym (so (le-leb _ _ (k .lengths i l .0)) (sym (le-leb _ _ (k .lengths i l .1))))) in
-      let mask = mask-rule (t .availability) .1 (k .mask-set, (k .mask-2, k .mask-45)) in
-      sym (so (sym (so (le-leb _ _ (k .count)) (sym (le-leb _ _ (k .held)))))
-      (so (sym (so (sym (so (sym (so (sym (so mask (sym codes))) (sym (ascends (t .codes) (t .count) .1 (k .codes-ascend))))) (sym statuses))) (sym (ascends (t .identifiers) (t .held) .1 (k .identifiers-ascend)))))
-      (sym lengths)))
+      record {
+        count = k .count;
+        held = k .held;
+        mask = mask-rule (t .availability) .1 (k .mask-set, (k .mask-2, k .mask-45));
+        codes = all-each _ (t .count) (λ i l. lt-ltb _ _ (k .codes i l));
+        ascend = ascends (t .codes) (t .count) .1 (k .codes-ascend);
+        statuses = all-each _ (t .count) (λ i l. eq-eqb _ _ (k .statuses i l));
+        identifiers = ascends (t .identifiers) (t .held) .1 (k .identifiers-ascend);
+        lengths = all-each _ (t .held) (λ i l. rw (le-leb _ _ (k .lengths i l .0)) (le-leb _ _ (k .lengths i l .1)));
+      }
 
   pub sound-exactly : soundRecord t ≡ true ↔ KeepsRules t
-  sound-exactly = (λ e. keeps (sound-has t e), sound)
+  sound-exactly = (λ e. keeps (sound-has t e), λ k. sound-from t (sound k))

@@ -7,29 +7,29 @@ use Prim.Native.Nat.{ℕ, zero, suc, _+_, _-_, _≤_, _<_}
 use native.Mathlib.Nat.{eq-or-lt-of-le}
 use native.Mathlib.Numerals.{add-one}
 use native.Mathlib.Omega.{arith}
-use borrow.Author.Tests.{leb-true, ltb-true, lt-ltb}
+use borrow.Author.Tests.{leb-true, ltb-true, lt-ltb, le-leb}
 use lib.Dec.{ltb}
 use lib.ListN.{getD}
 use Rattle.identifiers.specs.Choice.{both}
 use Rattle.identifiers.specs.Below.{allBelow}
-use Rattle.identifiers.proofs.LawsChoice.{stop, so, both-true, both-false, and-is}
+use Rattle.identifiers.proofs.LawsChoice.{stop, so, both-true, both-false, both-assoc, and-is}
 use Rattle.identifiers.proofs.LawsBelow.{all-suc, all-at, all-each, all-fails}
 use Rattle.server.specs.Mask.{maskKept}
-use Rattle.server.specs.Trailer.{ascending, codesBelow, statusesWithin, lengthsWithin, soundRecord, soundFields}
+use Rattle.server.specs.Trailer.{ascending, codesBelow, statusesWithin, lengthWithin, lengthsWithin, soundRecord}
 use Rattle.server.specs.declared.trailer.TrailerRecord.{TrailerRecord}
 
 pub record Sound (t : TrailerRecord) : Type 0 where
   pub count : t .count ≤ 63
   pub held : t .held ≤ 16
   pub mask : maskKept (t .availability) ≡ true
-  pub codes : codesBelow (t .codes) (t .count) ≡ true
+  pub codes : codesBelow t ≡ true
   pub ascend : ascending (t .codes) (t .count) ≡ true
-  pub statuses : statusesWithin (t .statuses) (t .availability) (t .count) ≡ true
+  pub statuses : statusesWithin t ≡ true
   pub identifiers : ascending (t .identifiers) (t .held) ≡ true
-  pub lengths : lengthsWithin (t .lengths) (t .held) ≡ true
+  pub lengths : lengthsWithin t ≡ true
 
 pub sound-has : (t : TrailerRecord) → soundRecord t ≡ true → Sound t
-unfolding soundRecord soundFields
+unfolding soundRecord
 sound-has t e =
     let a = both-true _ _ e in
     let b = both-true _ _ (a .0) in
@@ -40,9 +40,13 @@ sound-has t e =
     let j = both-true _ _ (i .0) in
     record { count = leb-true _ _ (b .0); held = leb-true _ _ (b .1); mask = j .0; codes = j .1; ascend = i .1; statuses = h .1; identifiers = g .1; lengths = f .1 }
 
-pub length-within : (lengths : List ℕ) (held k : ℕ) → lengthsWithin lengths held ≡ true → k < held → (1 ≤ getD lengths k 0) × (getD lengths k 0 ≤ 32)
-unfolding lengthsWithin
-length-within lengths held k e l = let b = both-true _ _ (all-at _ k held e l) in (leb-true _ _ (b .0), leb-true _ _ (b .1))
+pub sound-from : (t : TrailerRecord) → Sound t → soundRecord t ≡ true
+unfolding soundRecord both
+sound-from t s = rw (le-leb (t .count) 63 (s .count), le-leb (t .held) 16 (s .held), s .mask, s .codes, s .ascend, s .statuses, s .identifiers, s .lengths)
+
+pub length-within : (t : TrailerRecord) (k : ℕ) → lengthsWithin t ≡ true → k < t .held → (1 ≤ getD (t .lengths) k 0) × (getD (t .lengths) k 0 ≤ 32)
+unfolding lengthsWithin lengthWithin
+length-within t k e l = let b = both-true _ _ (all-at _ k (t .held) e l) in (leb-true _ _ (b .0), leb-true _ _ (b .1))
 
 -- ---- the codes: the last of those that ascend is the greatest
 last-greatest : (codes : List ℕ) (n : ℕ) → allBelow (λ i. ltb (getD codes i 0) (getD codes (i + 1) 0)) n ≡ true → (i : ℕ) → i ≤ n → getD codes i 0 ≤ getD codes n 0
@@ -52,20 +56,15 @@ last-greatest codes (suc n) e i l =
     ⊎-elim (λ (q : i ≡ suc n). rw q (omega arith))
     (λ (q : i < suc n). omega (arith, last-greatest codes n (s .0) i (omega arith), ltb-true (getD codes n 0) (getD codes (n + 1) 0) (s .1), ap (λ (k : ℕ). getD codes k 0) (add-one n))) (eq-or-lt-of-le l)
 
-pub codes-by-last : (codes : List ℕ) (count : ℕ) → 0 < count → (ascending codes count && ltb (getD codes (count - 1) 0) 0xFFFFFF) ≡ both (codesBelow codes count) (ascending codes count)
-unfolding ascending codesBelow
+pub codes-by-last : (codes : List ℕ) (count : ℕ) → 0 < count → (ascending codes count && ltb (getD codes (count - 1) 0) 0xFFFFFF) ≡ both (allBelow (λ i. ltb (getD codes i 0) 0xFFFFFF) count) (ascending codes count)
+unfolding ascending
 codes-by-last codes count l = by (ascending codes count) (ltb (getD codes (count - 1) 0) 0xFFFFFF) refl refl
   where
-    by : (a b : Bool) → ascending codes count ≡ a → ltb (getD codes (count - 1) 0) 0xFFFFFF ≡ b → (a && b) ≡ both (codesBelow codes count) a
-    by false b p q = sym (both-false (codesBelow codes count))
+    by : (a b : Bool) → ascending codes count ≡ a → ltb (getD codes (count - 1) 0) 0xFFFFFF ≡ b → (a && b) ≡ both (allBelow (λ i. ltb (getD codes i 0) 0xFFFFFF) count) a
+    by false b p q = sym (both-false _)
     by true false p q = stop true (all-fails _ (count - 1) count (omega arith) q)
     by true true p q = so (all-each _ count (λ i h. lt-ltb (getD codes i 0) 0xFFFFFF (omega (arith, last-greatest codes (count - 1) p i (omega arith), ltb-true (getD codes (count - 1) 0) 0xFFFFFF q)))) refl
 
 -- the tests of a record in a row, as the code and as the definition joins them
-both-joins : (a b c : Bool) → both a (both b c) ≡ both (both a b) c
-unfolding both
-both-joins true b c = refl
-both-joins false b c = refl
-
 pub tests-in-a-row : (a b c d e f : Bool) → ((((a && both b c) && d) && e) && f) ≡ both (both (both (both (both a b) c) d) e) f
-tests-in-a-row a b c d e f = simp (and-is, both-joins)
+tests-in-a-row a b c d e f = simp (and-is, ← both-assoc)

@@ -7,11 +7,12 @@ pub mod LawsFaults
 pub mod LawsDataIdentifiers
 pub mod LawsRequests
 pub mod LawsServer
+pub mod LawsSilence
 pub mod LawsCleared
+pub mod LawsStatus
 pub mod Demand2
 pub mod Demand2Services
 pub mod LawsNegatives
-pub mod LawsDue
 pub mod LawsAnswers
 pub mod Demand2Answers
 pub mod Demand2Negatives

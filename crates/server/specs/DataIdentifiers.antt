@@ -6,6 +6,7 @@ use Rattle.identifiers.specs.Choice.{pick}
 use Rattle.identifiers.specs.Below.{listBelow}
 use Rattle.server.specs.Places.{placeOf, heldAmong}
 use Rattle.server.specs.Faults.{twoBytes}
+use Rattle.server.specs.declared.trailer.TrailerRecord.{TrailerRecord}
 
 -- how many identifiers a request asks, and which is the one at j
 unfoldable pub askedCount : List ℕ → ℕ
@@ -15,24 +16,17 @@ unfoldable pub askedAt : List ℕ → ℕ → ℕ
 askedAt request j = getD request (1 + 2 * j) 0 * 256 + getD request (1 + 2 * j + 1) 0
 
 -- the data of the identifier at place k: each has 32 bytes of room, and as many as its length says are its own
-unfoldable pub dataAt : List ℕ → ℕ → ℕ → List ℕ
-dataAt bytes k j = getD bytes (32 * k + j) 0 ∷ []
-
-unfoldable pub dataOf : List ℕ → List ℕ → ℕ → List ℕ
-dataOf lengths bytes k = listBelow (dataAt bytes k) (getD lengths k 0)
+unfoldable pub dataOf : TrailerRecord → ℕ → List ℕ
+dataOf t k = listBelow (λ j. getD (t .bytes) (32 * k + j) 0 ∷ []) (getD (t .lengths) k 0)
 
 -- "identifier and data"
-unfoldable pub identifierAndData : List ℕ → List ℕ → List ℕ → ℕ → List ℕ
-identifierAndData identifiers lengths bytes k = twoBytes (getD identifiers k 0) ++ dataOf lengths bytes k
+unfoldable pub identifierAndData : TrailerRecord → ℕ → List ℕ
+identifierAndData t k = twoBytes (getD (t .identifiers) k 0) ++ dataOf t k
 
 -- what is answered for one identifier: nothing where it is not held
-unfoldable pub answerTo : List ℕ → List ℕ → List ℕ → ℕ → ℕ → List ℕ
-answerTo identifiers lengths bytes held identifier =
-    pick (heldAmong identifiers held identifier) (identifierAndData identifiers lengths bytes (placeOf identifiers held identifier)) []
-
-unfoldable pub answerAt : List ℕ → List ℕ → List ℕ → ℕ → List ℕ → ℕ → List ℕ
-answerAt identifiers lengths bytes held request j = answerTo identifiers lengths bytes held (askedAt request j)
+unfoldable pub answerTo : TrailerRecord → ℕ → List ℕ
+answerTo t identifier = pick (heldAmong (t .identifiers) (t .held) identifier) (identifierAndData t (placeOf (t .identifiers) (t .held) identifier)) []
 
 -- "identifier and data for each held one as asked, repeats too"
-unfoldable pub answersOf : List ℕ → List ℕ → List ℕ → ℕ → List ℕ → List ℕ
-answersOf identifiers lengths bytes held request = listBelow (answerAt identifiers lengths bytes held request) (askedCount request)
+unfoldable pub answersOf : TrailerRecord → List ℕ → List ℕ
+answersOf t request = listBelow (λ j. answerTo t (askedAt request j)) (askedCount request)

@@ -8,6 +8,7 @@ use lib.ListN.{getD, set}
 use Rattle.identifiers.specs.Choice.{pick, either}
 use Rattle.identifiers.specs.Below.{countBelow, listBelow}
 use Rattle.server.specs.Places.{heldAmong}
+use Rattle.server.specs.declared.trailer.TrailerRecord.{TrailerRecord}
 
 -- "Match: status AND mask is not 0."
 unfoldable pub matches : ℕ → ℕ → Bool
@@ -17,9 +18,9 @@ matches status mask = not (eqb (bitAnd status mask) 0)
 unfoldable pub listed : Bool → ℕ → ℕ → Bool
 listed all mask status = either all (matches status mask)
 
--- how many of the first codes are listed
-unfoldable pub countListed : List ℕ → Bool → ℕ → ℕ → ℕ
-countListed statuses all mask count = countBelow (λ i. listed all mask (getD statuses i 0)) count
+-- how many of the held codes are listed
+unfoldable pub countListed : TrailerRecord → Bool → ℕ → ℕ
+countListed t all mask = countBelow (λ i. listed all mask (getD (t .statuses) i 0)) (t .count)
 
 -- a number in two bytes, high first
 unfoldable pub twoBytes : ℕ → List ℕ
@@ -29,22 +30,26 @@ twoBytes number = number / 256 % 256 ∷ number % 256 ∷ []
 unfoldable pub codeAndStatus : ℕ → ℕ → List ℕ
 codeAndStatus code status = code / 65536 % 256 ∷ code / 256 % 256 ∷ code % 256 ∷ status ∷ []
 
-unfoldable pub listedAt : List ℕ → List ℕ → Bool → ℕ → ℕ → List ℕ
-listedAt codes statuses all mask i = pick (listed all mask (getD statuses i 0)) (codeAndStatus (getD codes i 0) (getD statuses i 0)) []
+-- what one code has in a report: nothing where it is not listed
+unfoldable pub reported : Bool → ℕ → ℕ → ℕ → List ℕ
+reported all mask code status = pick (listed all mask status) (codeAndStatus code status) []
 
 -- "code and status of each match, in order"; "all likewise"
-unfoldable pub reportOf : List ℕ → List ℕ → Bool → ℕ → ℕ → List ℕ
-reportOf codes statuses all mask count = listBelow (listedAt codes statuses all mask) count
+unfoldable pub reportOf : TrailerRecord → Bool → ℕ → List ℕ
+reportOf t all mask = listBelow (λ i. reported all mask (getD (t .codes) i 0) (getD (t .statuses) i 0)) (t .count)
 
 -- "`FFFFFF` or a held code"
-unfoldable pub groupHeld : List ℕ → ℕ → ℕ → Bool
-groupHeld codes count group = either (eqb group 0xFFFFFF) (heldAmong codes count group)
+unfoldable pub groupHeld : TrailerRecord → ℕ → Bool
+groupHeld t group = either (eqb group 0xFFFFFF) (heldAmong (t .codes) (t .count) group)
 
 unfoldable pub inGroup : ℕ → ℕ → Bool
 inGroup group code = either (eqb group 0xFFFFFF) (eqb code group)
 
--- "those statuses become" the one that is given: of the first codes, those in the group
-unfoldable pub clearedBelow : List ℕ → List ℕ → ℕ → ℕ → ℕ → List ℕ
-clearedBelow codes statuses group status zero = statuses
-clearedBelow codes statuses group status (suc n) =
-    pick (inGroup group (getD codes n 0)) (set (clearedBelow codes statuses group status n) n status) (clearedBelow codes statuses group status n)
+-- of the first n places those that have p hold the status, and every other place what it held
+unfoldable pub storedBelow : (ℕ → Bool) → ℕ → List ℕ → ℕ → List ℕ
+storedBelow p status statuses zero = statuses
+storedBelow p status statuses (suc n) = pick (p n) (set (storedBelow p status statuses n) n status) (storedBelow p status statuses n)
+
+-- "those statuses become `50` AND the availability mask"
+unfoldable pub clearedOf : TrailerRecord → ℕ → List ℕ
+clearedOf t group = storedBelow (λ i. inGroup group (getD (t .codes) i 0)) (bitAnd 0x50 (t .availability)) (t .statuses) (t .count)

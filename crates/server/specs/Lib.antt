@@ -6,6 +6,8 @@ pub mod Rules
 pub mod Faults
 pub mod DataIdentifiers
 pub mod Requests
+pub mod Silence
+pub mod Forms
 pub mod Server
 pub mod Negatives
 pub mod Status

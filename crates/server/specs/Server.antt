@@ -1,89 +1,75 @@
--- The server: the negative code of a request, the bytes of its answer, and what one request leaves behind (document 01, "Server").
-use mathlib.Core.Bool.{Bool, false, not}
+-- The server: the negative code of a request, the bytes of its answer, what it changes, and what one request leaves behind (document 01, "Server").
+-- A request stands in these definitions as it was read, with its bytes beside it: the identifiers that `22` asks stand there alone.
+use mathlib.Core.Bool.{Bool, true, false, not}
 use mathlib.Core.List.{List, [], _∷_}
 use Prim.Native.Nat.{ℕ, _+_}
 use lib.Dec.{eqb, ltb}
-use lib.Bits.{bitAnd}
 use lib.ListN.{length}
 use Rattle.identifiers.specs.Choice.{pick, either}
 use Rattle.identifiers.specs.Bytes.{written}
 use Rattle.identifiers.specs.Refusals.{refusal}
-use Rattle.server.specs.Trailer.{soundRecord}
-use Rattle.server.specs.Faults.{countListed, twoBytes, reportOf, groupHeld, clearedBelow}
+use Rattle.server.specs.Trailer.{soundRecord, withStatuses}
+use Rattle.server.specs.Faults.{countListed, twoBytes, reportOf, groupHeld, clearedOf}
 use Rattle.server.specs.DataIdentifiers.{answersOf}
-use Rattle.server.specs.Requests.{serviceOf, subFunctionOf, maskOf, groupOf, formOf, silentOn}
+use Rattle.server.specs.Requests.{serviceOf, requestOf}
+use Rattle.server.specs.Silence.{silentOn}
 use Rattle.server.specs.declared.trailer.TrailerRecord.{TrailerRecord}
+use Rattle.server.specs.declared.requests.Request.{Request}
 use Rattle.server.specs.declared.serving.Answer.{Answer}
 use Rattle.server.specs.declared.serving.Answer.the-variants.{Refused, Silent, Sent}
 
--- the body of 19: "`03`, count in two bytes", or the report
-unfoldable pub faultsOf : List ℕ → List ℕ → ℕ → List ℕ → List ℕ
-faultsOf codes statuses count request =
-    pick (eqb (subFunctionOf request) 0x01) (0x03 ∷ twoBytes (countListed statuses false (maskOf request) count))
-    (reportOf codes statuses (eqb (subFunctionOf request) 0x0A) (maskOf request) count)
+-- the content of a request: "Other groups 31"; "A report over 255 bytes is 14"; "No asked identifier is held: 31. Over 255 bytes: 14."; 0 for none of them
+unfoldable pub contentOf14 : TrailerRecord → ℕ → ℕ
+contentOf14 t group = pick (groupHeld t group) 0 0x31
 
--- the content of each service: "Other groups 31"; "A report over 255 bytes is 14"; "No asked identifier is held: 31. Over 255 bytes: 14."; 0 for none of them
-unfoldable pub contentOf14 : List ℕ → ℕ → List ℕ → ℕ
-contentOf14 codes count request = pick (groupHeld codes count (groupOf request)) 0 0x31
+unfoldable pub contentOf19 : TrailerRecord → Bool → ℕ → ℕ
+contentOf19 t all mask = pick (ltb 255 (3 + length (reportOf t all mask))) 0x14 0
 
-unfoldable pub contentOf19 : List ℕ → List ℕ → ℕ → List ℕ → ℕ
-contentOf19 codes statuses count request = pick (ltb 255 (3 + length (faultsOf codes statuses count request))) 0x14 0
+unfoldable pub contentOf22 : TrailerRecord → List ℕ → ℕ
+contentOf22 t request = pick (eqb (length (answersOf t request)) 0) 0x31 (pick (ltb 255 (1 + length (answersOf t request))) 0x14 0)
 
-unfoldable pub contentOf22 : List ℕ → List ℕ → List ℕ → ℕ → List ℕ → ℕ
-contentOf22 identifiers lengths bytes held request =
-    pick (eqb (length (answersOf identifiers lengths bytes held request)) 0) 0x31 (pick (ltb 255 (1 + length (answersOf identifiers lengths bytes held request))) 0x14 0)
-
-unfoldable pub contentFields : List ℕ → List ℕ → ℕ → List ℕ → List ℕ → List ℕ → ℕ → List ℕ → ℕ
-contentFields codes statuses count identifiers lengths bytes held request =
-    pick (eqb (serviceOf request) 0x14) (contentOf14 codes count request)
-    (pick (eqb (serviceOf request) 0x19) (contentOf19 codes statuses count request)
-    (pick (eqb (serviceOf request) 0x22) (contentOf22 identifiers lengths bytes held request) 0))
-
--- "Checks in order: .. content": the negative code, 0 where the answer is positive
-unfoldable pub negativeFields : List ℕ → List ℕ → ℕ → List ℕ → List ℕ → List ℕ → ℕ → List ℕ → ℕ
-negativeFields codes statuses count identifiers lengths bytes held request =
-    pick (eqb (formOf request) 0) (contentFields codes statuses count identifiers lengths bytes held request) (formOf request)
-
-unfoldable pub negativeOf : TrailerRecord → List ℕ → ℕ
-negativeOf t request = negativeFields (t .codes) (t .statuses) (t .count) (t .identifiers) (t .lengths) (t .bytes) (t .held) request
+-- "Checks in order: service unknown 11; 19 and 3E shorter than 2, 13; sub-function (low seven bits) unknown 12; wrong length 13; content": the negative code, 0 where the answer is positive
+unfoldable pub negativeOf : TrailerRecord → Request → List ℕ → ℕ
+negativeOf t Request.UnknownService request = 0x11
+negativeOf t Request.TooShort request = 0x13
+negativeOf t Request.UnknownSubFunction request = 0x12
+negativeOf t Request.WrongLength request = 0x13
+negativeOf t (Request.ClearGroup group) request = contentOf14 t group
+negativeOf t (Request.CountByMask silent mask) request = 0
+negativeOf t (Request.ListByMask silent mask) request = contentOf19 t false mask
+negativeOf t (Request.ListAll silent) request = contentOf19 t true 0
+negativeOf t Request.ReadData request = contentOf22 t request
+negativeOf t (Request.TesterPresent silent) request = 0
 
 -- "Negative: `7F`, service, code."
 unfoldable pub negativeBytes : ℕ → ℕ → List ℕ
 negativeBytes service code = 0x7F ∷ service ∷ code ∷ []
 
--- "`54`"; "`59` ..": the sub-function, the availability and the body; "`62`, then .."; "`7E 00`"
-unfoldable pub positiveFields : List ℕ → List ℕ → ℕ → ℕ → List ℕ → List ℕ → List ℕ → ℕ → List ℕ → List ℕ
-positiveFields codes statuses count availability identifiers lengths bytes held request =
-    pick (eqb (serviceOf request) 0x14) (0x54 ∷ [])
-    (pick (eqb (serviceOf request) 0x19) (0x59 ∷ subFunctionOf request ∷ availability ∷ faultsOf codes statuses count request)
-    (pick (eqb (serviceOf request) 0x22) (0x62 ∷ answersOf identifiers lengths bytes held request) (0x7E ∷ 0x00 ∷ [])))
+-- "Answer `54`"; "`59 01`, availability, `03`, count in two bytes"; "`59 02`, availability, then code and status of each match"; "`59 0A` and all likewise"; "`62`, then .."; "`7E 00`"
+unfoldable pub positiveOf : TrailerRecord → Request → List ℕ → List ℕ
+positiveOf t Request.UnknownService request = []
+positiveOf t Request.TooShort request = []
+positiveOf t Request.UnknownSubFunction request = []
+positiveOf t Request.WrongLength request = []
+positiveOf t (Request.ClearGroup group) request = 0x54 ∷ []
+positiveOf t (Request.CountByMask silent mask) request = 0x59 ∷ 0x01 ∷ t .availability ∷ 0x03 ∷ twoBytes (countListed t false mask)
+positiveOf t (Request.ListByMask silent mask) request = 0x59 ∷ 0x02 ∷ t .availability ∷ reportOf t false mask
+positiveOf t (Request.ListAll silent) request = 0x59 ∷ 0x0A ∷ t .availability ∷ reportOf t true 0
+positiveOf t Request.ReadData request = 0x62 ∷ answersOf t request
+positiveOf t (Request.TesterPresent silent) request = 0x7E ∷ 0x00 ∷ []
 
-unfoldable pub positiveOf : TrailerRecord → List ℕ → List ℕ
-positiveOf t request = positiveFields (t .codes) (t .statuses) (t .count) (t .availability) (t .identifiers) (t .lengths) (t .bytes) (t .held) request
-
--- "those statuses become `50` AND the availability mask"
-unfoldable pub statusesAfter : List ℕ → List ℕ → ℕ → ℕ → List ℕ → List ℕ
-statusesAfter codes statuses count availability request =
-    pick (eqb (serviceOf request) 0x14) (clearedBelow codes statuses (groupOf request) (bitAnd 0x50 availability) count) statuses
-
--- a record with other statuses
-unfoldable pub withStatuses : TrailerRecord → List ℕ → TrailerRecord
-withStatuses t statuses =
-    record {
-      codes = t .codes;
-      statuses = statuses;
-      count = t .count;
-      availability = t .availability;
-      identifiers = t .identifiers;
-      lengths = t .lengths;
-      bytes = t .bytes;
-      held = t .held;
-    }
-
--- a record of its fields
-abbrev pub recordOf : List ℕ → List ℕ → ℕ → ℕ → List ℕ → List ℕ → List ℕ → ℕ → TrailerRecord
-recordOf codes statuses count availability identifiers lengths bytes held =
-    record { codes = codes; statuses = statuses; count = count; availability = availability; identifiers = identifiers; lengths = lengths; bytes = bytes; held = held }
+-- what a request that is answered positively leaves in the record
+unfoldable pub changedBy : TrailerRecord → Request → TrailerRecord
+changedBy t Request.UnknownService = t
+changedBy t Request.TooShort = t
+changedBy t Request.UnknownSubFunction = t
+changedBy t Request.WrongLength = t
+changedBy t (Request.ClearGroup group) = withStatuses t (clearedOf t group)
+changedBy t (Request.CountByMask silent mask) = t
+changedBy t (Request.ListByMask silent mask) = t
+changedBy t (Request.ListAll silent) = t
+changedBy t Request.ReadData = t
+changedBy t (Request.TesterPresent silent) = t
 
 -- 17 "request of 0 or over 255, or response buffer not 255"
 unfoldable pub wrongLengths : ℕ → ℕ → Bool
@@ -95,16 +81,18 @@ pub record Outcome : Type 0 where
   pub answer : Answer
   pub response : List ℕ
 
+abbrev pub outcome : TrailerRecord → Answer → List ℕ → Outcome
+outcome after answer response = record { after = after; answer = answer; response = response }
+
 -- "those past the response stay, all stay when silent"
+unfoldable pub answered : TrailerRecord → Request → List ℕ → Bool → List ℕ → Outcome
+answered t asked request functional response =
+    pick (silentOn asked functional (negativeOf t asked request)) (outcome t Silent response)
+    (pick (not (eqb (negativeOf t asked request) 0)) (outcome t (Sent 3) (written response 0 (negativeBytes (serviceOf request) (negativeOf t asked request))))
+    (outcome (changedBy t asked) (Sent (length (positiveOf t asked request))) (written response 0 (positiveOf t asked request))))
+
+-- 1 "lent state breaks its rules", 17, and else as the request is read
 unfoldable pub outcomeOf : TrailerRecord → List ℕ → Bool → List ℕ → Outcome
 outcomeOf t request functional response =
-    pick (not (soundRecord t)) (record { after = t; answer = Refused (refusal 1); response = response })
-    (pick (wrongLengths (length request) (length response)) (record { after = t; answer = Refused (refusal 17); response = response })
-    (pick (silentOn request functional (negativeOf t request)) (record { after = t; answer = Silent; response = response })
-    (pick (not (eqb (negativeOf t request) 0))
-    (record { after = t; answer = Sent 3; response = written response 0 (negativeBytes (serviceOf request) (negativeOf t request)) })
-    (record {
-      after = withStatuses t (statusesAfter (t .codes) (t .statuses) (t .count) (t .availability) request);
-      answer = Sent (length (positiveOf t request));
-      response = written response 0 (positiveOf t request);
-    }))))
+    pick (not (soundRecord t)) (outcome t (Refused (refusal 1)) response)
+    (pick (wrongLengths (length request) (length response)) (outcome t (Refused (refusal 17)) response) (answered t (requestOf request) request functional response))

@@ -5,8 +5,7 @@ use lib.ListN.{set}
 use Rattle.identifiers.specs.Choice.{pick}
 use Rattle.identifiers.specs.Refusals.{refusal}
 use Rattle.server.specs.Places.{placeOf, heldAmong}
-use Rattle.server.specs.Trailer.{soundRecord, statusWithin}
-use Rattle.server.specs.Server.{withStatuses}
+use Rattle.server.specs.Trailer.{soundRecord, statusWithin, withStatuses}
 use Rattle.server.specs.declared.trailer.TrailerRecord.{TrailerRecord}
 use Rattle.server.specs.declared.status.StatusAnswer.{StatusAnswer}
 use Rattle.server.specs.declared.status.StatusAnswer.the-variants.{Refused, Set}

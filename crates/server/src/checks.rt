@@ -1,43 +1,38 @@
-// The content of a request, service by service: its negative code, or 0.
+// The negative code of a request, by what it asks.
 use crate::data_identifiers::answers_length;
 use crate::faults::count_listed;
 use crate::faults::group_held;
-use crate::requests::form;
-use crate::requests::group;
-use crate::requests::mask;
-use crate::requests::service;
-use crate::requests::sub_function;
+use crate::requests::Request;
 ghost use mathlib.Core.Path.{_≡_};
-ghost use Prim.Native.Nat.{_≤_};
+ghost use Prim.Native.Nat.{ℕ, _+_, _*_, _≤_};
+ghost use lib.Dec.{eqb, ltb};
 ghost use lib.ListN.{length};
-ghost use Rattle.server.specs.Server.{contentOf14, contentOf19, contentOf22, negativeFields};
+ghost use Rattle.identifiers.specs.Choice.{pick, either};
+ghost use Rattle.server.specs.Places.{heldAmong};
+ghost use Rattle.server.specs.Trailer.{recordOf, dataAlone};
+ghost use Rattle.server.specs.Server.{contentOf22, negativeOf};
 
-fn content14(codes: &[u32; 63], count: usize, request: &[u8]) -> u8
-    requires { ⌜ (count ≤ 63) × (length (now request) ≡ 4) ⌝ }
-    ensures { λ r. ⌜ r ≡ contentOf14 (now (codes .entry)) count (now (request .entry)) ⌝ }
+fn content_of_14(codes: &[u32; 63], count: usize, group: u32) -> u8
+    requires { ⌜ count ≤ 63 ⌝ }
+    ensures { λ r. ⌜ r ≡ pick (either (eqb group 0xFFFFFF) (heldAmong (now (codes .entry)) count group)) 0 0x31 ⌝ }
 {
-    if group_held(codes, count, group(request)) {
+    if group_held(codes, count, group) {
         return 0;
     }
     0x31
 }
 
-// A count has three bytes, a report four for each code that is listed.
-fn content19<'a>(codes: &'a [u32; 63], statuses: &'a [u8; 63], count: usize, request: &[u8]) -> u8
-    requires { ⌜ count ≤ 63 ⌝ }
-    ensures { λ r. ⌜ r ≡ contentOf19 (now (codes .entry)) (now (statuses .entry)) count (now (request .entry)) ⌝ }
+// A report has three bytes, and four for each code that is listed: over 255 from the 64th on.
+fn content_of_19(listed: usize) -> u8
+    ensures { λ r. ⌜ r ≡ pick (ltb 255 (3 + 4 * listed)) 0x14 0 ⌝ }
 {
-    let sub = sub_function(request);
-    if sub == 0x01 {
-        return 0;
-    }
-    if 255 < 3 + 4 * count_listed(statuses, sub == 0x0A, mask(request), count) {
+    if 63 < listed {
         return 0x14;
     }
     0
 }
 
-fn content22<'a>(
+fn content_of_22<'a>(
     identifiers: &'a [u16; 16],
     lengths: &'a [u8; 16],
     bytes: &'a [u8; 512],
@@ -45,7 +40,7 @@ fn content22<'a>(
     request: &[u8],
 ) -> u8
     requires { ⌜ (held ≤ 16) × ((1 ≤ length (now request)) × (length (now request) ≤ 255)) ⌝ }
-    ensures { λ r. ⌜ r ≡ contentOf22 (now (identifiers .entry)) (now (lengths .entry)) (now (bytes .entry)) held (now (request .entry)) ⌝ }
+    ensures { λ r. ⌜ r ≡ contentOf22 (dataAlone (now (identifiers .entry)) (now (lengths .entry)) (now (bytes .entry)) held) (now (request .entry)) ⌝ }
 {
     let n = answers_length(identifiers, lengths, bytes, held, request);
     if n == 0 {
@@ -57,7 +52,7 @@ fn content22<'a>(
     0
 }
 
-// The negative code of a request, 0 where the answer is positive.
+// The negative code of a request, 0 where the answer is positive. The availability mask plays no part.
 pub fn negative<'a>(
     codes: &'a [u32; 63],
     statuses: &'a [u8; 63],
@@ -66,24 +61,24 @@ pub fn negative<'a>(
     lengths: &'a [u8; 16],
     bytes: &'a [u8; 512],
     held: usize,
+    asked: Request,
     request: &[u8],
 ) -> u8
     requires { ⌜ (count ≤ 63) × ((held ≤ 16) × ((1 ≤ length (now request)) × (length (now request) ≤ 255))) ⌝ }
-    ensures { λ r. ⌜ r ≡ negativeFields (now (codes .entry)) (now (statuses .entry)) count (now (identifiers .entry)) (now (lengths .entry)) (now (bytes .entry)) held (now (request .entry)) ⌝ }
+    ensures { λ r. ⌜ ((availability : ℕ) → r ≡ negativeOf (recordOf (now (codes .entry)) (now (statuses .entry)) count availability (now (identifiers .entry)) (now (lengths .entry)) (now (bytes .entry)) held) asked (now (request .entry))) ⌝ }
 {
-    let code = form(request);
-    if code != 0 {
-        return code;
+    match asked {
+        Request::UnknownService => 0x11,
+        Request::TooShort => 0x13,
+        Request::UnknownSubFunction => 0x12,
+        Request::WrongLength => 0x13,
+        Request::ClearGroup { group } => content_of_14(codes, count, group),
+        Request::CountByMask { silent: _, mask: _ } => 0,
+        Request::ListByMask { silent: _, mask } => {
+            content_of_19(count_listed(statuses, false, mask, count))
+        }
+        Request::ListAll { silent: _ } => content_of_19(count_listed(statuses, true, 0, count)),
+        Request::ReadData => content_of_22(identifiers, lengths, bytes, held, request),
+        Request::TesterPresent { silent: _ } => 0,
     }
-    let service = service(request);
-    if service == 0x14 {
-        return content14(codes, count, request);
-    }
-    if service == 0x19 {
-        return content19(codes, statuses, count, request);
-    }
-    if service == 0x22 {
-        return content22(identifiers, lengths, bytes, held, request);
-    }
-    0
 }

@@ -2,12 +2,15 @@
 use crate::faults::put_two;
 ghost use mathlib.Core.Path.{_≡_};
 ghost use mathlib.Core.Bool.{true};
+ghost use mathlib.Core.List.{[], _∷_, _++_};
 ghost use Prim.Native.Nat.{_<_, _+_, _*_, _≤_};
 ghost use lib.ListN.{length, getD};
+ghost use Rattle.identifiers.specs.Below.{listBelow};
 ghost use Rattle.identifiers.specs.Bytes.{Puts};
-ghost use Rattle.server.specs.Trailer.{lengthsWithin};
+ghost use Rattle.server.specs.Trailer.{lengthsWithin, dataAlone};
 ghost use Rattle.server.specs.Places.{placeOf};
-ghost use Rattle.server.specs.DataIdentifiers.{askedAt, dataOf, identifierAndData, answersOf};
+ghost use Rattle.server.specs.Faults.{twoBytes};
+ghost use Rattle.server.specs.DataIdentifiers.{askedAt, answersOf};
 
 // A byte, with its range.
 fn byte(x: u8) -> usize
@@ -50,7 +53,7 @@ pub fn answers_length<'a>(
     request: &[u8],
 ) -> usize
     requires { ⌜ (held ≤ 16) × ((1 ≤ length (now request)) × (length (now request) ≤ 255)) ⌝ }
-    ensures { λ r. ⌜ r ≡ length (answersOf (now (identifiers .entry)) (now (lengths .entry)) (now (bytes .entry)) held (now (request .entry))) ⌝ }
+    ensures { λ r. ⌜ r ≡ length (answersOf (dataAlone (now (identifiers .entry)) (now (lengths .entry)) (now (bytes .entry)) held) (now (request .entry))) ⌝ }
 {
     let count = (request.len() - 1) / 2;
     let mut total = 0;
@@ -73,7 +76,7 @@ fn put_data<'a>(
     start: usize,
 ) -> usize
     requires { ⌜ (k < 16) × ((getD (now lengths) k 0 ≤ 32) × (start + getD (now lengths) k 0 ≤ length (now response))) ⌝ }
-    ensures { λ r. ⌜ Puts (now (response .entry)) start (dataOf (now (lengths .entry)) (now (bytes .entry)) k) r (now (response .exit)) ⌝ }
+    ensures { λ r. ⌜ Puts (now (response .entry)) start (listBelow (λ j. getD (now (bytes .entry)) (32 * k + j) 0 ∷ []) (getD (now (lengths .entry)) k 0)) r (now (response .exit)) ⌝ }
 {
     let n = byte(lengths[k]);
     let base = 32 * k;
@@ -96,7 +99,7 @@ fn put_identifier_and_data<'a>(
     start: usize,
 ) -> usize
     requires { ⌜ (k < 16) × ((getD (now lengths) k 0 ≤ 32) × (start + (2 + getD (now lengths) k 0) ≤ length (now response))) ⌝ }
-    ensures { λ r. ⌜ Puts (now (response .entry)) start (identifierAndData (now (identifiers .entry)) (now (lengths .entry)) (now (bytes .entry)) k) r (now (response .exit)) ⌝ }
+    ensures { λ r. ⌜ Puts (now (response .entry)) start (twoBytes (getD (now (identifiers .entry)) k 0) ++ listBelow (λ j. getD (now (bytes .entry)) (32 * k + j) 0 ∷ []) (getD (now (lengths .entry)) k 0)) r (now (response .exit)) ⌝ }
 {
     let at = put_two(response, start, identifiers[k]);
     put_data(lengths, bytes, k, response, at)
@@ -112,9 +115,9 @@ pub fn put_answers<'a>(
     response: &mut [u8],
     start: usize,
 ) -> usize
-    requires { ⌜ (held ≤ 16) × ((lengthsWithin (now lengths) held ≡ true) × ((1 ≤ length (now request))
-        × (start + length (answersOf (now identifiers) (now lengths) (now bytes) held (now request)) ≤ length (now response)))) ⌝ }
-    ensures { λ r. ⌜ Puts (now (response .entry)) start (answersOf (now (identifiers .entry)) (now (lengths .entry)) (now (bytes .entry)) held (now (request .entry))) r (now (response .exit)) ⌝ }
+    requires { ⌜ (held ≤ 16) × ((lengthsWithin (dataAlone (now identifiers) (now lengths) (now bytes) held) ≡ true) × ((1 ≤ length (now request))
+        × (start + length (answersOf (dataAlone (now identifiers) (now lengths) (now bytes) held) (now request)) ≤ length (now response)))) ⌝ }
+    ensures { λ r. ⌜ Puts (now (response .entry)) start (answersOf (dataAlone (now (identifiers .entry)) (now (lengths .entry)) (now (bytes .entry)) held) (now (request .entry))) r (now (response .exit)) ⌝ }
 {
     let count = (request.len() - 1) / 2;
     let mut at = start;

@@ -1,10 +1,14 @@
 // Services 14 and 19: the fault codes held, counted, listed and cleared.
 ghost use mathlib.Core.Path.{_≡_};
 ghost use Prim.Native.Nat.{_+_, _*_, _≤_};
-ghost use lib.ListN.{length};
+ghost use lib.Bits.{bitAnd};
+ghost use lib.Dec.{eqb};
+ghost use lib.ListN.{length, getD};
+ghost use Rattle.identifiers.specs.Choice.{either};
+ghost use Rattle.identifiers.specs.Below.{countBelow, listBelow};
 ghost use Rattle.identifiers.specs.Bytes.{Puts};
-ghost use Rattle.server.specs.Places.{placeOf};
-ghost use Rattle.server.specs.Faults.{listed, countListed, codeAndStatus, twoBytes, reportOf, groupHeld, inGroup, clearedBelow};
+ghost use Rattle.server.specs.Places.{placeOf, heldAmong};
+ghost use Rattle.server.specs.Faults.{listed, codeAndStatus, twoBytes, reported, inGroup, storedBelow};
 
 // The place of a code, or count where it is not held.
 pub fn place(codes: &[u32; 63], count: usize, code: u32) -> usize
@@ -23,7 +27,7 @@ pub fn place(codes: &[u32; 63], count: usize, code: u32) -> usize
 
 pub fn group_held(codes: &[u32; 63], count: usize, group: u32) -> bool
     requires { ⌜ count ≤ 63 ⌝ }
-    ensures { λ r. ⌜ r ≡ groupHeld (now (codes .entry)) count group ⌝ }
+    ensures { λ r. ⌜ r ≡ either (eqb group 0xFFFFFF) (heldAmong (now (codes .entry)) count group) ⌝ }
 {
     if group == 0xFFFFFF {
         return true;
@@ -39,7 +43,7 @@ fn is_listed(all: bool, mask: u8, status: u8) -> bool
 
 pub fn count_listed(statuses: &[u8; 63], all: bool, mask: u8, count: usize) -> usize
     requires { ⌜ count ≤ 63 ⌝ }
-    ensures { λ r. ⌜ r ≡ countListed (now (statuses .entry)) all mask count ⌝ }
+    ensures { λ r. ⌜ r ≡ countBelow (λ i. listed all mask (getD (now (statuses .entry)) i 0)) count ⌝ }
 {
     let mut n: u8 = 0;
     let mut i = 0;
@@ -88,7 +92,7 @@ pub fn put_report<'a>(
     start: usize,
 ) -> usize
     requires { ⌜ (count ≤ 63) × (start + 4 * count ≤ length (now response)) ⌝ }
-    ensures { λ r. ⌜ Puts (now (response .entry)) start (reportOf (now (codes .entry)) (now (statuses .entry)) all mask count) r (now (response .exit)) ⌝ }
+    ensures { λ r. ⌜ Puts (now (response .entry)) start (listBelow (λ i. reported all mask (getD (now (codes .entry)) i 0) (getD (now (statuses .entry)) i 0)) count) r (now (response .exit)) ⌝ }
 {
     let mut at = start;
     let mut i = 0;
@@ -108,17 +112,18 @@ fn in_group(group: u32, code: u32) -> bool
     (group == 0xFFFFFF) | (code == group)
 }
 
-// The statuses, with those of the group as given.
+// The statuses, with those of the group cleared.
 pub fn cleared(
     codes: &[u32; 63],
     statuses: [u8; 63],
-    group: u32,
-    status: u8,
     count: usize,
+    availability: u8,
+    group: u32,
 ) -> [u8; 63]
     requires { ⌜ count ≤ 63 ⌝ }
-    ensures { λ r. ⌜ r ≡ clearedBelow (now (codes .entry)) statuses group status count ⌝ }
+    ensures { λ r. ⌜ r ≡ storedBelow (λ i. inGroup group (getD (now (codes .entry)) i 0)) (bitAnd 0x50 availability) statuses count ⌝ }
 {
+    let status = 0x50 & availability;
     let mut after = statuses;
     let mut i = 0;
     while i < count {

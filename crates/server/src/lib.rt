@@ -3,15 +3,13 @@ mod answers;
 mod checks;
 mod data_identifiers;
 mod faults;
-mod lent;
 mod mask;
 mod requests;
 mod serving;
+mod silence;
 mod status;
 mod trailer;
 
-pub use lent::serve_lent;
-pub use lent::set_status_lent;
 pub use mask::mask_kept;
 pub use serving::Answer;
 pub use serving::AnswerTold;

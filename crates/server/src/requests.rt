@@ -1,8 +1,107 @@
-// A request by itself: its service, its sub-function, its form, and whether nothing is sent.
+// A request is read once: what it asks, with its numbers, or which check of its form fails.
 ghost use mathlib.Core.Path.{_≡_};
-ghost use Prim.Native.Nat.{_<_, _≤_};
-ghost use lib.ListN.{length, getD};
-ghost use Rattle.server.specs.Requests.{serviceOf, subFunctionOf, maskOf, groupOf, knownService, hasSubFunction, knownSubFunction, rightLength, formOf, suppressed, quietCode, silentOn};
+ghost use Prim.Native.Nat.{_<_};
+ghost use lib.ListN.{length};
+ghost use Rattle.server.specs.Requests.{serviceOf, subFunctionOf, silencing, maskOf, groupOf, sized, formOf14, formOf19, formOf22, formOf3E, requestOf};
+
+// The checks that fail, then each request of document 01 with its numbers, `silent` where bit 7 of its sub-function is set.
+pub enum Request {
+    UnknownService,
+    TooShort,
+    UnknownSubFunction,
+    WrongLength,
+    ClearGroup { group: u32 },
+    CountByMask { silent: bool, mask: u8 },
+    ListByMask { silent: bool, mask: u8 },
+    ListAll { silent: bool },
+    ReadData,
+    TesterPresent { silent: bool },
+}
+
+fn wide(x: u8) -> u32
+    ensures { λ r. ⌜ (r ≡ x) × (r < 256) ⌝ }
+{
+    x as u32
+}
+
+fn group(request: &[u8]) -> u32
+    requires { ⌜ length (now request) ≡ 4 ⌝ }
+    ensures { λ r. ⌜ r ≡ groupOf (now (request .entry)) ⌝ }
+{
+    wide(request[1]) * 65536 + wide(request[2]) * 256 + wide(request[3])
+}
+
+fn form_of_14(request: &[u8]) -> Request
+    ensures { λ r. ⌜ r ≡ formOf14 (now (request .entry)) ⌝ }
+{
+    if request.len() != 4 {
+        return Request::WrongLength;
+    }
+    let group = group(request);
+    Request::ClearGroup { group }
+}
+
+// A request of the right length, or the wrong one.
+fn sized(right: bool, asked: Request) -> Request
+    ensures { λ r. ⌜ r ≡ sized right asked ⌝ }
+{
+    if right {
+        return asked;
+    }
+    Request::WrongLength
+}
+
+fn mask(request: &[u8]) -> u8
+    ensures { λ r. ⌜ r ≡ maskOf (now (request .entry)) ⌝ }
+{
+    if request.len() < 3 {
+        return 0;
+    }
+    request[2]
+}
+
+fn form_of_19(request: &[u8]) -> Request
+    ensures { λ r. ⌜ r ≡ formOf19 (now (request .entry)) ⌝ }
+{
+    let n = request.len();
+    if n < 2 {
+        return Request::TooShort;
+    }
+    let sub = request[1] % 128;
+    let silent = 128 <= request[1];
+    let mask = mask(request);
+    if sub == 0x01 {
+        return sized(n == 3, Request::CountByMask { silent, mask });
+    }
+    if sub == 0x02 {
+        return sized(n == 3, Request::ListByMask { silent, mask });
+    }
+    if sub == 0x0A {
+        return sized(n == 2, Request::ListAll { silent });
+    }
+    Request::UnknownSubFunction
+}
+
+fn form_of_22(request: &[u8]) -> Request
+    ensures { λ r. ⌜ r ≡ formOf22 (now (request .entry)) ⌝ }
+{
+    let n = request.len();
+    sized((3 <= n) & (n % 2 == 1), Request::ReadData)
+}
+
+fn form_of_3E(request: &[u8]) -> Request
+    ensures { λ r. ⌜ r ≡ formOf3E (now (request .entry)) ⌝ }
+{
+    let n = request.len();
+    if n < 2 {
+        return Request::TooShort;
+    }
+    let silent = 128 <= request[1];
+    if request[1] % 128 == 0x00 {
+        return sized(n == 2, Request::TesterPresent { silent });
+    }
+    Request::UnknownSubFunction
+}
 
 pub fn service(request: &[u8]) -> u8
     ensures { λ r. ⌜ r ≡ serviceOf (now (request .entry)) ⌝ }
@@ -13,116 +112,15 @@ pub fn service(request: &[u8]) -> u8
     request[0]
 }
 
-fn second(request: &[u8]) -> u8
-    ensures { λ r. ⌜ r ≡ getD (now (request .entry)) 1 0 ⌝ }
-{
-    if request.len() < 2 {
-        return 0;
-    }
-    request[1]
-}
-
-pub fn sub_function(request: &[u8]) -> u8
-    ensures { λ r. ⌜ r ≡ subFunctionOf (now (request .entry)) ⌝ }
-{
-    second(request) % 128
-}
-
-pub fn mask(request: &[u8]) -> u8
-    ensures { λ r. ⌜ r ≡ maskOf (now (request .entry)) ⌝ }
-{
-    if request.len() < 3 {
-        return 0;
-    }
-    request[2]
-}
-
-fn wide(x: u8) -> u32
-    ensures { λ r. ⌜ (r ≡ x) × (r < 256) ⌝ }
-{
-    x as u32
-}
-
-pub fn group(request: &[u8]) -> u32
-    requires { ⌜ length (now request) ≡ 4 ⌝ }
-    ensures { λ r. ⌜ r ≡ groupOf (now (request .entry)) ⌝ }
-{
-    wide(request[1]) * 65536 + wide(request[2]) * 256 + wide(request[3])
-}
-
-fn known_service(service: u8) -> bool
-    ensures { λ r. ⌜ r ≡ knownService service ⌝ }
-{
-    ((service == 0x14) | (service == 0x19)) | ((service == 0x22) | (service == 0x3E))
-}
-
-fn has_sub_function(service: u8) -> bool
-    ensures { λ r. ⌜ r ≡ hasSubFunction service ⌝ }
-{
-    (service == 0x19) | (service == 0x3E)
-}
-
-fn known_sub_function(service: u8, sub: u8) -> bool
-    ensures { λ r. ⌜ r ≡ knownSubFunction service sub ⌝ }
-{
-    ((service == 0x19) & ((sub == 0x01) | (sub == 0x02) | (sub == 0x0A)))
-        | ((service == 0x3E) & (sub == 0x00))
-}
-
-fn right_length(service: u8, sub: u8, n: usize) -> bool
-    ensures { λ r. ⌜ r ≡ rightLength service sub n ⌝ }
-{
-    if service == 0x14 {
-        return n == 4;
-    }
-    if service == 0x22 {
-        return (3 <= n) & (n % 2 == 1);
-    }
-    if (service == 0x19) & (sub != 0x0A) {
-        return n == 3;
-    }
-    n == 2
-}
-
-// The negative code that the form of a request has, 0 for none.
-pub fn form(request: &[u8]) -> u8
-    ensures { λ r. ⌜ r ≡ formOf (now (request .entry)) ⌝ }
+pub fn read_request(request: &[u8]) -> Request
+    ensures { λ r. ⌜ r ≡ requestOf (now (request .entry)) ⌝ }
 {
     let service = service(request);
-    if !known_service(service) {
-        return 0x11;
+    match service {
+        0x14 => form_of_14(request),
+        0x19 => form_of_19(request),
+        0x22 => form_of_22(request),
+        0x3E => form_of_3E(request),
+        _ => Request::UnknownService,
     }
-    if has_sub_function(service) & (request.len() < 2) {
-        return 0x13;
-    }
-    let sub = sub_function(request);
-    if has_sub_function(service) & !known_sub_function(service, sub) {
-        return 0x12;
-    }
-    if !right_length(service, sub, request.len()) {
-        return 0x13;
-    }
-    0
-}
-
-fn is_suppressed(request: &[u8]) -> bool
-    ensures { λ r. ⌜ r ≡ suppressed (now (request .entry)) ⌝ }
-{
-    has_sub_function(service(request)) & (128 <= second(request))
-}
-
-fn is_quiet(code: u8) -> bool
-    ensures { λ r. ⌜ r ≡ quietCode code ⌝ }
-{
-    (code == 0x11) | (code == 0x12) | (code == 0x31)
-}
-
-// Is nothing sent, with that negative code, 0 where the answer is positive.
-pub fn silent(request: &[u8], functional: bool, code: u8) -> bool
-    ensures { λ r. ⌜ r ≡ silentOn (now (request .entry)) functional code ⌝ }
-{
-    if code == 0 {
-        return is_suppressed(request);
-    }
-    functional & is_quiet(code)
 }

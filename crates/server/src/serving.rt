@@ -1,20 +1,20 @@
-// The server by value: the record goes in and comes back.
+// The server by value: the record goes in, and its statuses come back.
 use crate::answers::put_negative;
 use crate::answers::put_positive;
 use crate::checks::negative;
 use crate::faults::cleared;
-use crate::requests::group;
+use crate::requests::Request;
+use crate::requests::read_request;
 use crate::requests::service;
-use crate::requests::silent;
+use crate::silence::silent_on;
 use crate::trailer::TrailerRecord;
 use crate::trailer::sound;
 use identifiers::Refusal;
 ghost use mathlib.Core.Path.{_≡_};
-ghost use Prim.Native.Nat.{_≤_};
-ghost use lib.ListN.{length};
-ghost use Rattle.server.specs.Requests.{formOf};
-ghost use Rattle.server.specs.Trailer.{soundRecord};
-ghost use Rattle.server.specs.Server.{recordOf, statusesAfter, wrongLengths, outcomeOf};
+ghost use mathlib.Core.List.{List};
+ghost use Prim.Native.Nat.{ℕ, _≤_};
+ghost use Rattle.server.specs.Trailer.{soundRecord, withStatuses, recordOf};
+ghost use Rattle.server.specs.Server.{changedBy, wrongLengths, outcome, outcomeOf};
 ghost use Rattle.server.specs.Told.{answerTold};
 
 pub enum Answer {
@@ -23,8 +23,9 @@ pub enum Answer {
     Sent(usize),
 }
 
+// What a request leaves behind: of the record only the statuses can change.
 pub struct Served {
-    pub record: TrailerRecord,
+    pub statuses: [u8; 63],
     pub answer: Answer,
 }
 
@@ -66,33 +67,28 @@ fn wrong_lengths(request: usize, response: usize) -> bool
     (request == 0) | (255 < request) | (response != 255)
 }
 
-// The statuses after a positive answer.
+// The statuses after a positive answer, whatever the data identifiers: nothing else of a record changes.
 fn statuses_after(
     codes: &[u32; 63],
     statuses: [u8; 63],
     count: usize,
     availability: u8,
-    request: &[u8],
+    asked: Request,
 ) -> [u8; 63]
-    requires { ⌜ (count ≤ 63) × (formOf (now request) ≡ 0) ⌝ }
-    ensures { λ r. ⌜ r ≡ statusesAfter (now (codes .entry)) statuses count availability (now (request .entry)) ⌝ }
+    requires { ⌜ count ≤ 63 ⌝ }
+    ensures { λ r. ⌜ ((identifiers lengths bytes : List ℕ) (held : ℕ)
+        → recordOf (now (codes .entry)) r count availability identifiers lengths bytes held ≡ changedBy (recordOf (now (codes .entry)) statuses count availability identifiers lengths bytes held) asked) ⌝ }
 {
-    if service(request) == 0x14 {
-        return cleared(codes, statuses, group(request), 0x50 & availability, count);
+    if let Request::ClearGroup { group } = asked {
+        return cleared(codes, statuses, count, availability, group);
     }
     statuses
 }
 
-// What a request leaves behind: the statuses and the answer.
-pub struct Responded {
-    pub statuses: [u8; 63],
-    pub answer: Answer,
-}
-
-fn leaves(statuses: [u8; 63], answer: Answer) -> Responded
+fn leaves(statuses: [u8; 63], answer: Answer) -> Served
     ensures { λ r. ⌜ (r .statuses ≡ statuses) × (r .answer ≡ answer) ⌝ }
 {
-    Responded { statuses, answer }
+    Served { statuses, answer }
 }
 
 // Answers one request: refusal 1 where the record did not keep its rules, 17 for the lengths.
@@ -110,11 +106,10 @@ fn respond<'a>(
     request: &[u8],
     functional: bool,
     response: &mut [u8],
-) -> Responded
+) -> Served
     requires { ⌜ kept ≡ soundRecord (recordOf (now codes) statuses count availability (now identifiers) (now lengths) (now bytes) held) ⌝ }
-    ensures { λ r. ⌜ (r .statuses ≡ outcomeOf (recordOf (now (codes .entry)) statuses count availability (now (identifiers .entry)) (now (lengths .entry)) (now (bytes .entry)) held) (now (request .entry)) functional (now (response .entry)) .after .statuses)
-        × ((r .answer ≡ outcomeOf (recordOf (now (codes .entry)) statuses count availability (now (identifiers .entry)) (now (lengths .entry)) (now (bytes .entry)) held) (now (request .entry)) functional (now (response .entry)) .answer)
-        × (now (response .exit) ≡ outcomeOf (recordOf (now (codes .entry)) statuses count availability (now (identifiers .entry)) (now (lengths .entry)) (now (bytes .entry)) held) (now (request .entry)) functional (now (response .entry)) .response)) ⌝ }
+    ensures { λ r. ⌜ outcome (recordOf (now (codes .entry)) (r .statuses) count availability (now (identifiers .entry)) (now (lengths .entry)) (now (bytes .entry)) held) (r .answer) (now (response .exit))
+        ≡ outcomeOf (recordOf (now (codes .entry)) statuses count availability (now (identifiers .entry)) (now (lengths .entry)) (now (bytes .entry)) held) (now (request .entry)) functional (now (response .entry)) ⌝ }
 {
     if !kept {
         return leaves(statuses, Answer::Refused(Refusal::RulesBroken));
@@ -122,6 +117,7 @@ fn respond<'a>(
     if wrong_lengths(request.len(), response.len()) {
         return leaves(statuses, Answer::Refused(Refusal::WrongLength));
     }
+    let asked = read_request(request);
     let code = negative(
         codes,
         &statuses,
@@ -130,9 +126,10 @@ fn respond<'a>(
         lengths,
         bytes,
         held,
+        asked,
         request,
     );
-    if silent(request, functional, code) {
+    if silent_on(asked, functional, code) {
         return leaves(statuses, Answer::Silent);
     }
     if code != 0 {
@@ -148,21 +145,17 @@ fn respond<'a>(
         lengths,
         bytes,
         held,
+        asked,
         request,
         response,
     );
-    let after = statuses_after(codes, statuses, count, availability, request);
+    let after = statuses_after(codes, statuses, count, availability, asked);
     leaves(after, Answer::Sent(n))
 }
 
-// Answers one request. Of the record only the statuses can change.
-pub fn serve(
-    mut record: TrailerRecord,
-    request: &[u8],
-    functional: bool,
-    response: &mut [u8],
-) -> Served
-    ensures { λ r. ⌜ (r .«record» ≡ outcomeOf «record» (now (request .entry)) functional (now (response .entry)) .after)
+// Answers one request.
+pub fn serve(record: TrailerRecord, request: &[u8], functional: bool, response: &mut [u8]) -> Served
+    ensures { λ r. ⌜ (withStatuses «record» (r .statuses) ≡ outcomeOf «record» (now (request .entry)) functional (now (response .entry)) .after)
         × ((r .answer ≡ outcomeOf «record» (now (request .entry)) functional (now (response .entry)) .answer)
         × (now (response .exit) ≡ outcomeOf «record» (now (request .entry)) functional (now (response .entry)) .response)) ⌝ }
 {
@@ -176,7 +169,7 @@ pub fn serve(
         record.held,
     );
     let before = record.statuses;
-    let done = respond(
+    respond(
         kept,
         &record.codes,
         before,
@@ -189,9 +182,5 @@ pub fn serve(
         request,
         functional,
         response,
-    );
-    let statuses = done.statuses;
-    let answer = done.answer;
-    record.statuses = statuses;
-    Served { record, answer }
+    )
 }

@@ -1,10 +1,11 @@
-// The host sets the status of one code: the record goes in and comes back.
+// The host sets the status of one code: the record goes in, and its statuses come back.
 use crate::faults::place;
 use crate::trailer::TrailerRecord;
 use crate::trailer::sound;
 use crate::trailer::status_within;
 use identifiers::Refusal;
 ghost use mathlib.Core.Path.{_≡_};
+ghost use Rattle.server.specs.Trailer.{withStatuses};
 ghost use Rattle.server.specs.Status.{settingOf};
 ghost use Rattle.server.specs.Told.{statusTold};
 
@@ -13,8 +14,9 @@ pub enum StatusAnswer {
     Set,
 }
 
+// What a setting leaves behind: of the record only the statuses can change.
 pub struct StatusSet {
-    pub record: TrailerRecord,
+    pub statuses: [u8; 63],
     pub answer: StatusAnswer,
 }
 
@@ -39,8 +41,9 @@ impl StatusAnswer {
 
 // Sets the status of one code: refusal 1 for the record, 18 where the code is not held, 19 for a status outside the mask.
 pub fn set_status(record: TrailerRecord, code: u32, status: u8) -> StatusSet
-    ensures { λ r. ⌜ (r .«record» ≡ settingOf «record» code status .after) × (r .answer ≡ settingOf «record» code status .answer) ⌝ }
+    ensures { λ r. ⌜ (withStatuses «record» (r .statuses) ≡ settingOf «record» code status .after) × (r .answer ≡ settingOf «record» code status .answer) ⌝ }
 {
+    let mut statuses = record.statuses;
     if !sound(
         &record.codes,
         &record.statuses,
@@ -50,29 +53,20 @@ pub fn set_status(record: TrailerRecord, code: u32, status: u8) -> StatusSet
         &record.lengths,
         record.held,
     ) {
-        return StatusSet {
-            record,
-            answer: StatusAnswer::Refused(Refusal::RulesBroken),
-        };
+        let answer = StatusAnswer::Refused(Refusal::RulesBroken);
+        return StatusSet { statuses, answer };
     }
     let count = record.count as usize;
     let i = place(&record.codes, count, code);
     if count <= i {
-        return StatusSet {
-            record,
-            answer: StatusAnswer::Refused(Refusal::CodeNotHeld),
-        };
+        let answer = StatusAnswer::Refused(Refusal::CodeNotHeld);
+        return StatusSet { statuses, answer };
     }
     if !status_within(record.availability, status) {
-        return StatusSet {
-            record,
-            answer: StatusAnswer::Refused(Refusal::StatusOutsideMask),
-        };
+        let answer = StatusAnswer::Refused(Refusal::StatusOutsideMask);
+        return StatusSet { statuses, answer };
     }
-    let mut after = record;
-    after.statuses[i] = status;
-    StatusSet {
-        record: after,
-        answer: StatusAnswer::Set,
-    }
+    statuses[i] = status;
+    let answer = StatusAnswer::Set;
+    StatusSet { statuses, answer }
 }

@@ -2,9 +2,13 @@
 use crate::mask::mask_kept;
 use identifiers::Refusal;
 ghost use mathlib.Core.Path.{_≡_};
-ghost use Prim.Native.Nat.{_≤_};
+ghost use mathlib.Core.List.{List};
+ghost use Prim.Native.Nat.{ℕ, _≤_};
+ghost use lib.Dec.{ltb};
+ghost use lib.ListN.{getD};
 ghost use Rattle.identifiers.specs.Choice.{both};
-ghost use Rattle.server.specs.Trailer.{ascending, codesBelow, statusWithin, statusesWithin, lengthsWithin, soundFields, checkedAs};
+ghost use Rattle.identifiers.specs.Below.{allBelow};
+ghost use Rattle.server.specs.Trailer.{ascending, statusWithin, lengthWithin, soundRecord, recordOf, checkedAs};
 ghost use Rattle.server.specs.Told.{checkedTold};
 
 // The places past count, past held, and past a datum's length are free. Each identifier has 32 bytes of room.
@@ -47,7 +51,7 @@ fn codes_ascend(codes: &[u32; 63], count: usize) -> bool
 // The last of codes that ascend is the greatest: it alone is held against FFFFFF.
 fn codes_kept(codes: &[u32; 63], count: usize) -> bool
     requires { ⌜ count ≤ 63 ⌝ }
-    ensures { λ r. ⌜ r ≡ both (codesBelow (now (codes .entry)) count) (ascending (now (codes .entry)) count) ⌝ }
+    ensures { λ r. ⌜ r ≡ both (allBelow (λ i. ltb (getD (now (codes .entry)) i 0) 0xFFFFFF) count) (ascending (now (codes .entry)) count) ⌝ }
 {
     if count == 0 {
         return true;
@@ -64,7 +68,7 @@ pub fn status_within(availability: u8, status: u8) -> bool
 
 fn statuses_within(statuses: &[u8; 63], availability: u8, count: usize) -> bool
     requires { ⌜ count ≤ 63 ⌝ }
-    ensures { λ r. ⌜ r ≡ statusesWithin (now (statuses .entry)) availability count ⌝ }
+    ensures { λ r. ⌜ r ≡ allBelow (λ i. statusWithin availability (getD (now (statuses .entry)) i 0)) count ⌝ }
 {
     let mut kept = true;
     let mut i = 0;
@@ -90,7 +94,7 @@ fn identifiers_ascend(identifiers: &[u16; 16], held: usize) -> bool
 
 fn lengths_within(lengths: &[u8; 16], held: usize) -> bool
     requires { ⌜ held ≤ 16 ⌝ }
-    ensures { λ r. ⌜ r ≡ lengthsWithin (now (lengths .entry)) held ⌝ }
+    ensures { λ r. ⌜ r ≡ allBelow (λ k. lengthWithin (getD (now (lengths .entry)) k 0)) held ⌝ }
 {
     let mut kept = true;
     let mut k = 0;
@@ -101,6 +105,7 @@ fn lengths_within(lengths: &[u8; 16], held: usize) -> bool
     kept
 }
 
+// Does a record keep its rules, whatever its data bytes are.
 pub fn sound<'a>(
     codes: &'a [u32; 63],
     statuses: &'a [u8; 63],
@@ -110,7 +115,7 @@ pub fn sound<'a>(
     lengths: &'a [u8; 16],
     held: u8,
 ) -> bool
-    ensures { λ r. ⌜ r ≡ soundFields (now (codes .entry)) (now (statuses .entry)) count availability (now (identifiers .entry)) (now (lengths .entry)) held ⌝ }
+    ensures { λ r. ⌜ ((bytes : List ℕ) → r ≡ soundRecord (recordOf (now (codes .entry)) (now (statuses .entry)) count availability (now (identifiers .entry)) (now (lengths .entry)) bytes held)) ⌝ }
 {
     if 63 < count {
         return false;

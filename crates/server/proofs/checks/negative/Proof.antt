@@ -1,72 +1,88 @@
--- `negative` meets its contract: the form, then the content of the service.
-use mathlib.Core.Path.{refl, sym, _∙_}
-use borrow.Author.Tests.{eq-eqb, ne-eqb}
+-- `negative` meets its contract: case by case.
+use mathlib.Core.Path.{_≡_, sym}
+use mathlib.Core.Bool.{Bool}
+use Prim.Native.Nat.{ℕ, _+_, _*_}
 use borrow.Author.Needs.{needs}
-use Rattle.identifiers.proofs.LawsChoice.{taken, passed}
-use Rattle.server.specs.Server.{contentFields, negativeFields}
-use Rattle.server.proofs.LawsRequests.{length-14}
+use lib.Dec.{ltb}
+use Rattle.identifiers.specs.Choice.{pick}
+use Rattle.server.specs.Faults.{countListed, groupHeld}
+use Rattle.server.specs.DataIdentifiers.{dataOf, identifierAndData, answerTo, answersOf}
+use Rattle.server.specs.Server.{contentOf14, contentOf19, contentOf22, negativeOf}
+use Rattle.server.specs.declared.trailer.TrailerRecord.{TrailerRecord}
+use Rattle.server.proofs.LawsFaults.{length-report}
 use Rattle.server.proofs.checks.negative.Statement.{statement}
 use Rattle.server.proofs.checks.negative.Tie as tie
 
-returns : tie.Need-returns
-unfolding negativeFields
-returns c = passed _ (rw (c .before .form .ensures) at (ne-eqb _ 0 (c .if1 .taken))) (c .before .form .ensures)
+-- the code of a report is that of its length
+by-length : (t : TrailerRecord) (all : Bool) (mask : ℕ) {n r : ℕ} → n ≡ countListed t all mask → r ≡ pick (ltb 255 (3 + 4 * n)) 0x14 0 → r ≡ contentOf19 t all mask
+unfolding contentOf19
+by-length t all mask e h = rw (e, sym (length-report t all mask)) at h
 
-content14-requires : tie.Need-content14-requires
-content14-requires c κs =
-    let at-form = c .before .before .before in
-    let entry = at-form .before .before in
-    ((entry .pre) .0, length-14 _ (sym (at-form .form .ensures) ∙ (c .before .before .if1 .left)) (sym (c .before .service .ensures) ∙ (c .if2 .taken)))
+returns : tie.Need-returns
+unfolding negativeOf
+returns c = λ availability. rw (c .enum-told .given .1)
 
 returns-2 : tie.Need-returns-2
-unfolding negativeFields contentFields
-returns-2 c =
-    let at-service = c .before .before in
-    let at-if1 = at-service .before in
-    taken _ (rw (at-if1 .before .form .ensures) at (eq-eqb _ 0 (at-if1 .if1 .left)))
-    (taken _ (rw (at-service .service .ensures) at (eq-eqb _ 0x14 (c .before .if2 .taken))) (c .content14 .ensures))
+unfolding negativeOf
+returns-2 c = λ availability. rw (c .enum-told2 .given .1)
 
 returns-3 : tie.Need-returns-3
-unfolding negativeFields contentFields
-returns-3 c =
-    let at-service = c .before .before .before in
-    let service = at-service .service .ensures in
-    let at-if1 = at-service .before in
-    taken _ (rw (at-if1 .before .form .ensures) at (eq-eqb _ 0 (at-if1 .if1 .left)))
-    (passed _ (rw service at (ne-eqb _ 0x14 (c .before .before .if2 .left)))
-    (taken _ (rw service at (eq-eqb _ 0x19 (c .before .if3 .taken))) (c .content19 .ensures)))
+unfolding negativeOf
+returns-3 c = λ availability. rw (c .enum-told3 .given .1)
 
 returns-4 : tie.Need-returns-4
-unfolding negativeFields contentFields
-returns-4 c =
-    let at-if2 = c .before .before .before in
-    let service = at-if2 .before .service .ensures in
-    let at-if1 = at-if2 .before .before in
-    taken _ (rw (at-if1 .before .form .ensures) at (eq-eqb _ 0 (at-if1 .if1 .left)))
-    (passed _ (rw service at (ne-eqb _ 0x14 (at-if2 .if2 .left)))
-    (passed _ (rw service at (ne-eqb _ 0x19 (c .before .before .if3 .left)))
-    (taken _ (rw service at (eq-eqb _ 0x22 (c .before .if4 .taken))) (c .content22 .ensures))))
+unfolding negativeOf
+returns-4 c = λ availability. rw (c .enum-told4 .given .1)
 
 returns-5 : tie.Need-returns-5
-unfolding negativeFields contentFields
-returns-5 c =
-    let at-service = c .before .before .before in
-    let service = at-service .service .ensures in
-    let at-if1 = at-service .before in
-    taken _ (rw (at-if1 .before .form .ensures) at (eq-eqb _ 0 (at-if1 .if1 .left)))
-    (passed _ (rw service at (ne-eqb _ 0x14 (c .before .before .if2 .left)))
-    (passed _ (rw service at (ne-eqb _ 0x19 (c .before .if3 .left)))
-    (passed _ (rw service at (ne-eqb _ 0x22 (c .if4 .left))) refl)))
+unfolding negativeOf contentOf14 groupHeld
+returns-5 c = λ availability. rw (c .before .before .asked .given .1) (c .content-of-14 .ensures)
+
+returns-6 : tie.Need-returns-6
+unfolding negativeOf
+returns-6 c = λ availability. rw (c .enum-told5 .given .1)
+
+returns-7 : tie.Need-returns-7
+unfolding negativeOf countListed
+returns-7 c = λ availability. rw (c .before .before .before .asked2 .given .1) (by-length _ _ _ (c .before .count-listed .ensures) (c .content-of-19 .ensures))
+
+returns-8 : tie.Need-returns-8
+unfolding negativeOf countListed
+returns-8 c = λ availability. rw (c .before .before .enum-told6 .given .1) (by-length _ _ _ (c .before .count-listed2 .ensures) (c .content-of-192 .ensures))
+
+returns-9 : tie.Need-returns-9
+unfolding negativeOf contentOf22 answersOf answerTo identifierAndData dataOf
+returns-9 c = λ availability. rw (c .before .enum-told7 .given .1) (c .content-of-22 .ensures)
+
+returns-10 : tie.Need-returns-10
+unfolding negativeOf
+returns-10 c = λ availability. rw (c .enum-told8 .given .1)
 
 pub negative-spec : {M : Type 1} → statement M
 negative-spec = tie.close (tie.spec
+    (λ c. search needs)
+    (λ c. search needs)
+    (λ c. search needs)
+    (λ c. search needs)
+    (λ c. search needs)
+    (λ c κs. search needs)
+    (λ c. search needs)
+    (λ c. search needs)
+    (λ c κs. search needs)
     (λ c κs. tt)
+    (λ c. search needs)
+    (λ c κs. search needs)
+    (λ c κs. tt)
+    (λ c. search needs)
+    (λ c κs. search needs)
+    (λ c. search needs)
     returns
-    (λ c κs. tt)
-    content14-requires
     returns-2
-    (λ c κs. search needs)
     returns-3
-    (λ c κs. search needs)
     returns-4
-    returns-5)
+    returns-5
+    returns-6
+    returns-7
+    returns-8
+    returns-9
+    returns-10)

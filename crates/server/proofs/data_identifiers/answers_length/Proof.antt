@@ -1,50 +1,73 @@
 -- `answers_length` meets its contract: the total so far is the length of what is answered to those passed.
 use mathlib.Core.Path.{_≡_, sym, ap, _∙_}
 use mathlib.Core.Logic.{⊎-elim}
-use Prim.Native.Nat.{_*_, _-_, _≤_}
+use mathlib.Core.List.{List}
+use Prim.Native.Nat.{ℕ, _+_, _*_, _-_, _<_, _≤_}
 use native.Mathlib.Omega.{arith}
 use borrow.Author.Needs.{needs}
-use lib.ListN.{length}
+use lib.ListN.{getD, length}
 use Rattle.identifiers.specs.Below.{listBelow}
-use Rattle.identifiers.proofs.LawsChoice.{taken}
 use Rattle.identifiers.proofs.LawsBelow.{list-none, length-more}
 use Rattle.server.specs.Places.{placeOf}
-use Rattle.server.specs.DataIdentifiers.{askedCount, askedAt, answerAt, answersOf}
-use Rattle.server.proofs.LawsDataIdentifiers.{length-identifier, answer-hit, answer-miss}
+use Rattle.server.specs.Trailer.{dataAlone}
+use Rattle.server.specs.DataIdentifiers.{askedCount, askedAt, answerTo, answersOf}
+use Rattle.server.specs.declared.trailer.TrailerRecord.{TrailerRecord}
+use Rattle.server.proofs.LawsDataIdentifiers.{length-answer, answer-miss}
 use Rattle.server.proofs.data_identifiers.answers_length.Statement.{statement}
 use Rattle.server.proofs.data_identifiers.answers_length.Tie as tie
 
 abbrev Inv-loop : tie.InvT-loop
-Inv-loop identifiers lengths bytes held request count total₀ j₀ total j = (j ≤ count) × ((total ≤ 257 * j) × (total ≡ length (listBelow (answerAt identifiers lengths bytes held request) j)))
+Inv-loop identifiers lengths bytes held request count total₀ j₀ total j =
+    (j ≤ count) × ((total ≤ 257 * j) × (total ≡ length (listBelow (λ i. answerTo (dataAlone identifiers lengths bytes held) (askedAt request i)) j)))
 
 abbrev μ-loop : tie.MeasureT-loop
 μ-loop identifiers lengths bytes held request count total₀ j₀ total j = count - j
 
+-- ---- the places
+module _ (c : tie.Start Inv-loop μ-loop) where
+  abbrev t : TrailerRecord
+  t = dataAlone (c .args .identifiers .now) (c .args .lengths .now) (c .args .bytes .now) (c .args .held)
+
+  abbrev request : List ℕ
+  request = c .args .request .now
+
+  abbrev answer : ℕ → List ℕ
+  answer j = answerTo t (askedAt request j)
+
+module _ (c : tie.After-place Inv-loop μ-loop) where
+  abbrev entry : tie.Start Inv-loop μ-loop
+  entry = c .before .before .before .before .before
+
+  abbrev j : ℕ
+  j = c .before .before .before .loop .j
+
+  stands : placeOf (t entry .identifiers) (t entry .held) (askedAt (request entry) j) ≡ c .place .result
+  stands = sym (c .place .ensures ∙ ap (placeOf (t entry .identifiers) (t entry .held)) (c .before .asked .ensures))
+
+  more : length (listBelow (answer entry) (j + 1)) ≡ length (listBelow (answer entry) j) + length (answer entry j)
+  more = length-more (answer entry) j
+
+  hit : c .place .result < t entry .held → length (answer entry j) ≡ 2 + getD (t entry .lengths) (c .place .result) 0
+  hit = length-answer (t entry) _ _ stands
+
+  miss : t entry .held ≤ c .place .result → length (answer entry j) ≡ 0
+  miss l = ap length (answer-miss (t entry) _ (rw stands l))
+
+-- ---- the needs
 loop-holds : tie.Need-loop-holds Inv-loop μ-loop
 loop-holds c = (search needs, (search needs, rw (list-none _)))
 
 loop-again : tie.Need-loop-again Inv-loop μ-loop
-unfolding answerAt
 loop-again c =
-    let at-loop = c .before .before .before .before in
-    let entry = at-loop .before .before in
-    let l = (at-loop .loop) in
-    let I = (entry .args .identifiers) .now in
-    let L = (entry .args .lengths) .now in
-    let B = (entry .args .bytes) .now in
-    let R = (entry .args .request) .now in
-    let h = (entry .args .held) in
-    let more = length-more (answerAt I L B h R) (l .j) in
-    let at : (c .before .place .result) ≡ placeOf I h (askedAt R (l .j)) = (c .before .place .ensures) ∙ ap (placeOf I h) (c .before .before .asked .ensures) in
+    let p = c .before in
     ⊎-elim
-    (λ w. (search needs, (omega (arith, w .3, w .2 .ensures .1), omega (arith, more, w .3, w .2 .ensures .0, length-identifier I L B (c .before .place .result), ap length (answer-hit I L B h (askedAt R (l .j)) (c .before .place .result) (sym at) (w .0 .taken))))))
-    (λ w. (search needs, (omega (arith, w .1), omega (arith, more, w .1, ap length (answer-miss I L B h (askedAt R (l .j)) (rw (sym at) (w .0 .left))))))) (c .if1 .came)
+    (λ w. (search needs, (omega (arith, w .3, w .2 .ensures .1), omega (arith, w .3, w .2 .ensures .0, more p, hit p (w .0 .taken)))))
+    (λ w. (search needs, (omega (arith, w .1), omega (arith, w .1, more p, miss p (w .0 .left))))) (c .if1 .came)
 
 returns : tie.Need-returns Inv-loop μ-loop
 unfolding answersOf askedCount
 returns c =
-    let entry = c .before .before .before in
-    let e : askedCount ((entry .args .request) .now) ≡ (c .before .loop .j) = omega arith in rw e ((c .before .loop .inv) .1 .1)
+    let e : askedCount (request (c .before .before .before)) ≡ c .before .loop .j = omega arith in rw e (c .before .loop .inv .1 .1)
 
 pub answers-length-spec : {M : Type 1} → statement M
 answers-length-spec = tie.close (tie.spec

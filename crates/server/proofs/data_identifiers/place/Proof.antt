@@ -6,7 +6,6 @@ use borrow.Author.Tests.{eq-eqb, ne-eqb}
 use borrow.Author.Needs.{needs}
 use lib.Dec.{eqb}
 use lib.ListN.{getD}
-use Rattle.identifiers.proofs.LawsChoice.{taken}
 use Rattle.server.specs.Places.{firstBelow, placeOf}
 use Rattle.server.proofs.LawsPlaces.{first-none, first-miss, first-hit}
 use Rattle.server.proofs.data_identifiers.place.Statement.{statement}
@@ -23,18 +22,14 @@ loop-holds c = (search needs, first-none _)
 
 returns : tie.Need-returns Inv-loop μ-loop
 unfolding placeOf
-returns c =
-    let at-loop = c .before .before .before in
-    sym (first-hit _ _ _ ((at-loop .loop .inv) .1) (eq-eqb _ _ (c .if1 .taken)) (search needs))
+returns c = sym (first-hit _ _ _ (c .before .before .before .loop .inv .1) (eq-eqb _ _ (c .if1 .taken)) (search needs))
 
 loop-again : tie.Need-loop-again Inv-loop μ-loop
-loop-again c =
-    let at-loop = c .before .before .before in
-    (search needs, first-miss _ _ ((at-loop .loop .inv) .1) (ne-eqb _ _ (c .if1 .left)))
+loop-again c = (search needs, first-miss _ _ (c .before .before .before .loop .inv .1) (ne-eqb _ _ (c .if1 .left)))
 
 returns-2 : tie.Need-returns-2 Inv-loop μ-loop
 unfolding placeOf
-returns-2 c = let e : (c .before .before .args .held) ≡ (c .before .loop .k) = omega arith in rw e (sym ((c .before .loop .inv) .1))
+returns-2 c = let e : c .before .before .args .held ≡ c .before .loop .k = omega arith in rw e (sym (c .before .loop .inv .1))
 
 pub place-spec : {M : Type 1} → statement M
 place-spec = tie.close (tie.spec

@@ -7,7 +7,7 @@ use borrow.Author.Needs.{needs}
 use lib.ListN.{getD}
 use Rattle.identifiers.specs.Below.{countBelow}
 use Rattle.identifiers.proofs.LawsBelow.{count-none, count-hit, count-miss}
-use Rattle.server.specs.Faults.{listed, countListed}
+use Rattle.server.specs.Faults.{listed}
 use Rattle.server.proofs.faults.count_listed.Statement.{statement}
 use Rattle.server.proofs.faults.count_listed.Tie as tie
 
@@ -22,14 +22,12 @@ loop-holds c = (search needs, (search needs, sym (count-none _)))
 
 loop-again : tie.Need-loop-again Inv-loop μ-loop
 loop-again c =
-    let at-loop = c .before .before .before .before in
-    let l = (at-loop .loop) in
+    let l = c .before .before .before .before .loop in
     ⊎-elim (λ w. (search needs, (omega (arith, w .1), w .1 ∙ ap (λ (x : ℕ). x + 1) (l .inv .1 .1) ∙ sym (count-hit _ _ (sym (c .before .is-listed .ensures) ∙ w .0 .taken)))))
     (λ w. (search needs, (omega (arith, w .1), w .1 ∙ l .inv .1 .1 ∙ sym (count-miss _ _ (sym (c .before .is-listed .ensures) ∙ w .0 .left))))) (c .if1 .came)
 
 returns : tie.Need-returns Inv-loop μ-loop
-unfolding countListed
-returns c = let e : (c .before .before .args .count) ≡ (c .before .loop .i) = omega arith in rw e ((c .before .loop .inv) .1 .1)
+returns c = let e : c .before .before .args .count ≡ c .before .loop .i = omega arith in rw e (c .before .loop .inv .1 .1)
 
 pub count-listed-spec : {M : Type 1} → statement M
 count-listed-spec = tie.close (tie.spec

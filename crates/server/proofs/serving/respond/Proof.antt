@@ -1,117 +1,142 @@
 -- `respond` meets its contract: each return stands at its rung, and what is written is what the rung says.
-use mathlib.Core.Path.{refl, sym, ap, _∙_}
-use borrow.Author.Tests.{not-true, not-false}
-use borrow.Author.Needs.{needs}
-use Rattle.server.specs.Server.{negativeOf, negativeBytes, positiveOf, withStatuses}
-use Rattle.server.proofs.LawsTrailer.{sound-has}
-use Rattle.server.proofs.LawsServer.{positive-form, right-lengths, ends, outcome-1, outcome-17, outcome-silent, outcome-negative, outcome-positive}
-use Rattle.server.specs.declared.serving.Answer.the-variants.{Sent}
+use mathlib.Core.Path.{_≡_, refl, sym, ap, _∙_}
+use mathlib.Core.Bool.{true, false}
+use mathlib.Core.List.{List}
+use Prim.Native.Nat.{ℕ}
 use native.Mathlib.Nat.{zero-add}
+use borrow.Author.Tests.{not-true, not-false}
+use lib.ListN.{length}
+use Rattle.identifiers.proofs.LawsBytes.{keeps-length}
+use Rattle.server.specs.Trailer.{soundRecord, recordOf}
+use Rattle.server.specs.Requests.{requestOf}
+use Rattle.server.specs.Silence.{silentOn}
+use Rattle.server.specs.Server.{negativeOf, negativeBytes, wrongLengths, outcome}
+use Rattle.server.specs.declared.trailer.TrailerRecord.{TrailerRecord}
+use Rattle.server.specs.declared.serving.Answer.{Answer}
+use Rattle.server.specs.declared.serving.Answer.the-variants.{Sent}
+use Rattle.server.proofs.LawsTrailer.{Sound, sound-has}
+use Rattle.server.proofs.LawsServer.{right-lengths, outcome-1, outcome-17, outcome-silent, outcome-negative, outcome-positive}
 use Rattle.server.proofs.serving.respond.Statement.{statement}
 use Rattle.server.proofs.serving.respond.Tie as tie
 
+same : {a b : TrailerRecord} {x y : Answer} {l m : List ℕ} → a ≡ b → x ≡ y → l ≡ m → outcome a x l ≡ outcome b y m
+same p q r = rw (p, q, r)
+
+-- the record with these statuses, and as it was lent
+module _ (k : tie.Start) where
+  abbrev with : List ℕ → TrailerRecord
+  with statuses = recordOf (k .args .codes .now) statuses (k .args .count) (k .args .availability) (k .args .identifiers .now) (k .args .lengths .now) (k .args .bytes .now) (k .args .held)
+
+  abbrev t : TrailerRecord
+  t = with (k .args .t3)
+
+-- it keeps its rules
+module _ (k : tie.Else1) where
+  kept : soundRecord (t (k .before .before .before)) ≡ true
+  kept = sym (k .before .before .before .pre) ∙ not-false _ (k .if1 .left)
+
+  has : Sound (t (k .before .before .before))
+  has = sound-has _ kept
+
+-- the lengths are right
+module _ (k : tie.Else2) where
+  abbrev entry : tie.Start
+  entry = k .before .before .before .before .before
+
+  right : wrongLengths (length (entry .args .request .now)) (length (entry .args .response .now)) ≡ false
+  right = sym (k .before .wrong-lengths .ensures) ∙ k .if2 .left
+
+-- the request is read, and its code known
+module _ (k : tie.After-negative) where
+  abbrev start : tie.Start
+  start = entry (k .before .before .before)
+
+  read : requestOf (start .args .request .now) ≡ k .before .before .read-request .result
+  read = sym (k .before .before .read-request .ensures)
+
+  code : k .negative .result ≡ negativeOf (t start) (k .before .before .read-request .result) (start .args .request .now)
+  code = k .negative .ensures (start .args .availability)
+
+-- it is answered
+module _ (k : tie.Else3) where
+  abbrev known : tie.After-negative
+  known = k .before .before
+
+  spoken : silentOn (known .before .before .read-request .result) (start known .args .functional) (negativeOf (t (start known)) (known .before .before .read-request .result) (start known .args .request .now)) ≡ false
+  spoken = rw (k .before .silent-on .ensures, code known) at (k .if3 .left)
+
 returns : tie.Need-returns
 returns c =
-    let entry = c .before .before .before .before in
-    let broken = sym (entry .pre) ∙ not-true _ (c .before .if1 .taken) in
-    ends (outcome-1 _ _ (entry .args .functional) _ broken) ((c .leaves .ensures) .0, ((c .leaves .ensures) .1, refl))
+    let l = c .leaves .ensures in
+    let start = c .before .before .before .before in
+    same (ap (with start) (l .0)) (l .1) refl ∙ sym (outcome-1 _ _ (start .args .functional) _ (sym (start .pre) ∙ not-true _ (c .before .if1 .taken)))
 
 returns-2 : tie.Need-returns-2
 returns-2 c =
-    let at-if1 = c .before .before .before in
-    let entry = at-if1 .before .before .before in
-    let kept = sym (entry .pre) ∙ not-false _ (at-if1 .if1 .left) in
-    let wrong = sym (c .before .before .wrong-lengths .ensures) ∙ (c .before .if2 .taken) in
-    ends (outcome-17 _ _ (entry .args .functional) _ kept wrong) ((c .leaves2 .ensures) .0, ((c .leaves2 .ensures) .1, refl))
+    let l = c .leaves2 .ensures in
+    let k = c .before .before .before in
+    let start = k .before .before .before in
+    same (ap (with start) (l .0)) (l .1) refl ∙ sym (outcome-17 _ _ (start .args .functional) _ (kept k) (sym (c .before .before .wrong-lengths .ensures) ∙ c .before .if2 .taken))
 
 negative-requires : tie.Need-negative-requires
 negative-requires c κs =
-    let at-if1 = c .before .before .before in
-    let entry = at-if1 .before .before .before in
-    let kept = sym (entry .pre) ∙ not-false _ (at-if1 .if1 .left) in
-    let s = sound-has _ kept in
-    let l = right-lengths _ _ (sym (c .before .before .wrong-lengths .ensures) ∙ (c .before .if2 .left)) in
+    let k = c .before .before in
+    let s = has (k .before .before) in
+    let l = right-lengths _ _ (right k) in
     (s .count, (s .held, (l .0, l .1 .0)))
 
 returns-3 : tie.Need-returns-3
-unfolding negativeOf
 returns-3 c =
-    let at-negative = c .before .before .before in
-    let at-if2 = at-negative .before .before in
-    let at-wrong-lengths = at-if2 .before in
-    let at-if1 = at-wrong-lengths .before in
-    let entry = at-if1 .before .before .before in
-    let kept = sym (entry .pre) ∙ not-false _ (at-if1 .if1 .left) in
-    let right = sym (at-wrong-lengths .wrong-lengths .ensures) ∙ (at-if2 .if2 .left) in
-    let silent = rw (c .before .before .silent .ensures, at-negative .negative .ensures) at (c .before .if3 .taken) in
-    ends (outcome-silent _ _ (entry .args .functional) _ kept right silent) ((c .leaves3 .ensures) .0, ((c .leaves3 .ensures) .1, refl))
+    let l = c .leaves3 .ensures in
+    let k = c .before .before .before in
+    let two = k .before .before .before in
+    same (ap (with (start k)) (l .0)) (l .1) refl
+    ∙ sym (outcome-silent _ _ (start k .args .functional) _ (kept (two .before .before)) (right two) (read k) (rw (c .before .before .silent-on .ensures, code k) at (c .before .if3 .taken)))
 
 put-negative-requires : tie.Need-put-negative-requires
-put-negative-requires c κs =
-    let at-if2 = c .before .before .before .before .before .before .before in
-    let at-wrong-lengths = at-if2 .before in
-    right-lengths _ _ (sym (at-wrong-lengths .wrong-lengths .ensures) ∙ (at-if2 .if2 .left)) .1 .1
+put-negative-requires c κs = right-lengths _ _ (right (c .before .before .before .before .before .before .before .before)) .1 .1
+
+same-length : tie.Need-same-length
+same-length c = keeps-length (c .before .before .before .put-negative .ensures)
 
 returns-4 : tie.Need-returns-4
-unfolding negativeOf negativeBytes
+unfolding negativeBytes
 returns-4 c =
-    let at-put-negative = c .before .before .before in
-    let at-service = at-put-negative .before in
-    let at-if4 = at-service .before .before in
-    let at-if3 = at-if4 .before in
-    let at-silent = at-if3 .before in
-    let at-negative = at-silent .before in
-    let at-if2 = at-negative .before .before in
-    let at-wrong-lengths = at-if2 .before in
-    let at-if1 = at-wrong-lengths .before in
-    let entry = at-if1 .before .before .before in
-    let kept = sym (entry .pre) ∙ not-false _ (at-if1 .if1 .left) in
-    let right = sym (at-wrong-lengths .wrong-lengths .ensures) ∙ (at-if2 .if2 .left) in
-    let spoken = rw (at-silent .silent .ensures, at-negative .negative .ensures) at (at-if3 .if3 .left) in
-    let law = outcome-negative _ _ (entry .args .functional) _ kept right spoken (λ q. (at-if4 .if4 .taken) ((at-negative .negative .ensures) ∙ q)) in
-    let put = (at-put-negative .put-negative .ensures) in
-    let holds = rw (at-service .service .ensures, at-negative .negative .ensures) at (put .holds) in
-    ends law ((c .leaves4 .ensures) .0, ((c .leaves4 .ensures) .1 ∙ ap Sent (put .ends), holds))
+    let l = c .leaves4 .ensures in
+    let put = c .before .before .before .put-negative .ensures in
+    let service = c .before .before .before .before in
+    let four = service .before .before in
+    let three = four .before in
+    let k = known three in
+    let two = k .before .before .before in
+    same (ap (with (start k)) (l .0)) (l .1 ∙ ap Sent (put .ends)) (rw (service .service .ensures, code k) at (put .holds))
+    ∙ sym (outcome-negative _ _ (start k .args .functional) _ (kept (two .before .before)) (right two) (read k) (spoken three) (λ z. four .if4 .taken (code k ∙ z)))
 
 put-positive-requires : tie.Need-put-positive-requires
 put-positive-requires c κs =
-    let at-negative = c .before .before .before .before .before in
-    let at-if2 = at-negative .before .before in
-    let at-wrong-lengths = at-if2 .before in
-    let at-if1 = at-wrong-lengths .before in
-    let entry = at-if1 .before .before .before in
-    let kept = sym (entry .pre) ∙ not-false _ (at-if1 .if1 .left) in
-    let s = sound-has _ kept in
-    let l = right-lengths _ _ (sym (at-wrong-lengths .wrong-lengths .ensures) ∙ (at-if2 .if2 .left)) in
-    (s .count, (s .held, (s .lengths, (l .0, (l .1 .1, (sym (at-negative .negative .ensures) ∙ (c .before .before .if4 .left)))))))
+    let four = c .before .before in
+    let k = known (four .before) in
+    let two = k .before .before .before in
+    let s = has (two .before .before) in
+    let l = right-lengths _ _ (right two) in
+    (s .count, (s .held, (s .lengths, (l .0, (l .1 .1, sym (code k) ∙ four .if4 .left)))))
 
 statuses-after-requires : tie.Need-statuses-after-requires
-statuses-after-requires c κs =
-    let at-if4 = c .before .before .before .before .before in
-    let at-negative = at-if4 .before .before .before in
-    let at-if1 = at-negative .before .before .before .before in
-    let entry = at-if1 .before .before .before in
-    let kept = sym (entry .pre) ∙ not-false _ (at-if1 .if1 .left) in
-    (sound-has _ kept .count, positive-form _ _ _ _ _ _ _ _ (sym (at-negative .negative .ensures) ∙ (at-if4 .if4 .left)) .0)
+statuses-after-requires c κs = has (known (c .before .before .before .before .before .before) .before .before .before .before .before) .count
+
+same-length-2 : tie.Need-same-length-2
+same-length-2 c = keeps-length (c .before .before .before .before .put-positive .ensures)
 
 returns-5 : tie.Need-returns-5
-unfolding negativeOf positiveOf withStatuses
 returns-5 c =
-    let at-put-positive = c .before .before .before .before in
-    let at-if4 = at-put-positive .before .before .before in
-    let at-if3 = at-if4 .before in
-    let at-silent = at-if3 .before in
-    let at-negative = at-silent .before in
-    let at-if2 = at-negative .before .before in
-    let at-wrong-lengths = at-if2 .before in
-    let at-if1 = at-wrong-lengths .before in
-    let entry = at-if1 .before .before .before in
-    let kept = sym (entry .pre) ∙ not-false _ (at-if1 .if1 .left) in
-    let right = sym (at-wrong-lengths .wrong-lengths .ensures) ∙ (at-if2 .if2 .left) in
-    let spoken = rw (at-silent .silent .ensures, at-negative .negative .ensures) at (at-if3 .if3 .left) in
-    let law = outcome-positive _ _ (entry .args .functional) _ kept right spoken (sym (at-negative .negative .ensures) ∙ (at-if4 .if4 .left)) in
-    let put = (at-put-positive .put-positive .ensures) in
-    ends law ((c .leaves5 .ensures) .0 ∙ (c .before .statuses-after .ensures), ((c .leaves5 .ensures) .1 ∙ ap Sent (put .ends ∙ zero-add _), put .holds))
+    let l = c .leaves5 .ensures in
+    let put = c .before .before .before .before .put-positive .ensures in
+    let four = c .before .before .before .before .before .before .before in
+    let k = known (four .before) in
+    let two = k .before .before .before in
+    let after = c .before .statuses-after .ensures _ _ _ _ in
+    same (ap (with (start k)) (l .0) ∙ after) (l .1 ∙ ap Sent (put .ends ∙ zero-add _)) (put .holds)
+    ∙ sym (outcome-positive _ _ (start k .args .functional) _ (kept (two .before .before)) (right two) (read k) (spoken (four .before)) (sym (code k) ∙ four .if4 .left))
 
 pub respond-spec : {M : Type 1} → statement M
 respond-spec = tie.close (tie.spec
@@ -120,6 +145,7 @@ respond-spec = tie.close (tie.spec
     (λ c κs. tt)
     (λ c κs. tt)
     returns-2
+    (λ c κs. tt)
     negative-requires
     (λ c κs. tt)
     (λ c κs. tt)
@@ -127,10 +153,10 @@ respond-spec = tie.close (tie.spec
     (λ c κs. tt)
     put-negative-requires
     (λ c κs. tt)
-    (λ c. search needs)
+    same-length
     returns-4
     put-positive-requires
     statuses-after-requires
     (λ c κs. tt)
-    (λ c. search needs)
+    same-length-2
     returns-5)

@@ -1,34 +1,45 @@
--- `statuses_after` meets its contract: cleared by service 14, else as they were.
-use mathlib.Core.Path.{refl, sym, ap, _∙_}
+-- `statuses_after` meets its contract: cleared where a group is to be cleared, else as they were.
+use mathlib.Core.Path.{_≡_, refl}
+use mathlib.Core.Bool.{not}
+use mathlib.Core.List.{List, [], _∷_}
 use Prim.Native.Nat.{ℕ}
-use borrow.Author.Tests.{eq-eqb, ne-eqb}
+use lib.Dec.{T}
+use mir.Val.{hasKey}
+use types.Run.{OneOf, miss}
+use denote.Enum.Declared.{tagOf}
 use borrow.Author.Needs.{needs}
-use lib.Dec.{eqb}
-use Rattle.identifiers.proofs.LawsChoice.{taken, passed}
-use Rattle.server.specs.Server.{statusesAfter}
-use Rattle.server.proofs.LawsRequests.{length-14}
+use Rattle.server.specs.Faults.{clearedOf}
+use Rattle.server.specs.Server.{changedBy}
+use Rattle.server.specs.declared.trailer.TrailerRecord.{TrailerRecord}
+use Rattle.server.specs.declared.requests.Request.{Request}
+use Rattle.server.proofs.requests.Request.{the-type}
 use Rattle.server.proofs.serving.statuses_after.Statement.{statement}
 use Rattle.server.proofs.serving.statuses_after.Tie as tie
 
-group-requires : tie.Need-group-requires
-group-requires c κs =
-    let entry = c .before .before .before in
-    length-14 _ ((entry .pre) .1) (sym (c .before .service .ensures) ∙ (c .if1 .taken))
-
 returns : tie.Need-returns
-unfolding statusesAfter
-returns c =
-    let at-service = c .before .before .before in
-    taken _ (eq-eqb _ 0x14 (sym (at-service .service .ensures) ∙ (c .before .before .if1 .taken))) (rw (c .before .group .ensures) at (c .cleared .ensures))
+unfolding changedBy clearedOf
+returns c = λ identifiers lengths bytes held. rw (c .cleared .ensures, c .before .before .asked .given .1)
+
+-- a request that clears no group changes nothing
+unchanged : (t : TrailerRecord) (asked : Request) (ks : List ℕ) → T (not (hasKey ks 4)) → OneOf ks (tagOf the-type asked) → t ≡ changedBy t asked
+unfolding changedBy
+unchanged t Request.UnknownService ks n k = refl
+unchanged t Request.TooShort ks n k = refl
+unchanged t Request.UnknownSubFunction ks n k = refl
+unchanged t Request.WrongLength ks n k = refl
+unchanged t (Request.ClearGroup group) ks n k = absurd (miss ks 4 n k)
+unchanged t (Request.CountByMask silent mask) ks n k = refl
+unchanged t (Request.ListByMask silent mask) ks n k = refl
+unchanged t (Request.ListAll silent) ks n k = refl
+unchanged t Request.ReadData ks n k = refl
+unchanged t (Request.TesterPresent silent) ks n k = refl
 
 returns-2 : tie.Need-returns-2
-unfolding statusesAfter
-returns-2 c = passed _ (ap (λ (x : ℕ). eqb x 0x14) (sym (c .before .service .ensures)) ∙ ne-eqb _ _ (c .if1 .left)) refl
+returns-2 c = λ identifiers lengths bytes held. unchanged _ _ (0 ∷ 1 ∷ 2 ∷ 3 ∷ 5 ∷ 6 ∷ 7 ∷ 8 ∷ 9 ∷ []) tt (c .match .keys2)
 
 pub statuses-after-spec : {M : Type 1} → statement M
 statuses-after-spec = tie.close (tie.spec
-    (λ c κs. tt)
-    group-requires
+    (λ c. search needs)
     (λ c κs. search needs)
     returns
     returns-2)

@@ -1,17 +1,17 @@
 -- `check` meets its contract: by the one test.
 use mathlib.Core.Path.{refl, sym, _∙_}
 use Rattle.identifiers.proofs.LawsChoice.{taken, passed}
-use Rattle.server.specs.Trailer.{soundRecord, checkedAs}
+use Rattle.server.specs.Trailer.{checkedAs}
 use Rattle.server.proofs.trailer.check.Statement.{statement}
 use Rattle.server.proofs.trailer.check.Tie as tie
 
 returns : tie.Need-returns
-unfolding checkedAs soundRecord
-returns c = taken _ (sym (c .before .sound .ensures) ∙ (c .if1 .taken)) refl
+unfolding checkedAs
+returns c = taken _ (sym (c .before .sound .ensures _) ∙ c .if1 .taken) refl
 
 returns-2 : tie.Need-returns-2
-unfolding checkedAs soundRecord
-returns-2 c = passed _ (sym (c .before .sound .ensures) ∙ (c .if1 .left)) refl
+unfolding checkedAs
+returns-2 c = passed _ (sym (c .before .sound .ensures _) ∙ c .if1 .left) refl
 
 pub check-spec : {M : Type 1} → statement M
 check-spec = tie.close (tie.spec

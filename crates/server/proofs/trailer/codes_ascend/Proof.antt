@@ -21,13 +21,11 @@ loop-holds : tie.Need-loop-holds Inv-loop μ-loop
 loop-holds c = (search needs, sym (all-none _))
 
 loop-again : tie.Need-loop-again Inv-loop μ-loop
-loop-again c =
-    let at-loop = c .before .before .before in
-    (search needs, all-turn _ _ ((at-loop .loop .inv) .1))
+loop-again c = (search needs, all-turn _ _ (c .before .before .before .loop .inv .1))
 
 returns : tie.Need-returns Inv-loop μ-loop
 unfolding ascending
-returns c = let e : (c .before .before .args .count) - 1 ≡ (c .before .loop .i) = omega arith in rw e ((c .before .loop .inv) .1)
+returns c = let e : c .before .before .args .count - 1 ≡ c .before .loop .i = omega arith in rw e (c .before .loop .inv .1)
 
 pub codes-ascend-spec : {M : Type 1} → statement M
 codes-ascend-spec = tie.close (tie.spec

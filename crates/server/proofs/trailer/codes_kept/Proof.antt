@@ -4,13 +4,13 @@ use native.Mathlib.Omega.{arith}
 use borrow.Author.Needs.{needs}
 use Rattle.identifiers.proofs.LawsChoice.{so}
 use Rattle.identifiers.proofs.LawsBelow.{all-none}
-use Rattle.server.specs.Trailer.{ascending, codesBelow}
+use Rattle.server.specs.Trailer.{ascending}
 use Rattle.server.proofs.LawsTrailer.{codes-by-last}
 use Rattle.server.proofs.trailer.codes_kept.Statement.{statement}
 use Rattle.server.proofs.trailer.codes_kept.Tie as tie
 
 returns : tie.Need-returns
-unfolding ascending codesBelow
+unfolding ascending
 returns c = rw (c .if1 .taken) (so (all-none _) (sym (all-none _)))
 
 returns-2 : tie.Need-returns-2

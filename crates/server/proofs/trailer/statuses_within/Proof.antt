@@ -6,7 +6,7 @@ use borrow.Author.Needs.{needs}
 use lib.ListN.{getD}
 use Rattle.identifiers.specs.Below.{allBelow}
 use Rattle.identifiers.proofs.LawsBelow.{all-none, all-turn}
-use Rattle.server.specs.Trailer.{statusWithin, statusesWithin}
+use Rattle.server.specs.Trailer.{statusWithin}
 use Rattle.server.proofs.trailer.statuses_within.Statement.{statement}
 use Rattle.server.proofs.trailer.statuses_within.Tie as tie
 
@@ -20,13 +20,10 @@ loop-holds : tie.Need-loop-holds Inv-loop μ-loop
 loop-holds c = (search needs, sym (all-none _))
 
 loop-again : tie.Need-loop-again Inv-loop μ-loop
-loop-again c =
-    let at-loop = c .before .before .before in
-    (search needs, rw (c .status-within .ensures) (all-turn _ _ ((at-loop .loop .inv) .1)))
+loop-again c = (search needs, rw (c .status-within .ensures) (all-turn _ _ (c .before .before .before .loop .inv .1)))
 
 returns : tie.Need-returns Inv-loop μ-loop
-unfolding statusesWithin
-returns c = let e : (c .before .before .args .count) ≡ (c .before .loop .i) = omega arith in rw e ((c .before .loop .inv) .1)
+returns c = let e : c .before .before .args .count ≡ c .before .loop .i = omega arith in rw e (c .before .loop .inv .1)
 
 pub statuses-within-spec : {M : Type 1} → statement M
 statuses-within-spec = tie.close (tie.spec
