@@ -33,24 +33,27 @@ use Rattle.server.proofs.LawsServer.{outcome-1, outcome-17, outcome-sil
 -- ---- the statements
 -- of one request to a record, physical or functional, with this response buffer
 module _ (t : TrailerRecord) (request : List ℕ) (functional : Bool) (response : List ℕ) where
+  abbrev pub leaves : Outcome
+  leaves = outcomeOf t request functional response
+
   -- a positive clear response: `54` is sent, and "those statuses become `50` AND the availability mask"
   pub record ClearSent : Type 0 where
     pub service : serviceOf request ≡ 0x14
-    pub after : outcomeOf t request functional response .after ≡ withStatuses t (clearedOf t (groupOf request))
-    pub answer : outcomeOf t request functional response .answer ≡ Sent 1
-    pub sent : outcomeOf t request functional response .response ≡ written response 0 (0x54 ∷ [])
+    pub after : leaves .after ≡ withStatuses t (clearedOf t (groupOf request))
+    pub answer : leaves .answer ≡ Sent 1
+    pub sent : leaves .response ≡ written response 0 (0x54 ∷ [])
 
   -- "No fault status changes by a request unless a positive clear response answers it":
   abbrev pub KeptOrCleared : Type 0
-  KeptOrCleared = (outcomeOf t request functional response .after ≡ t) ⊎ ClearSent
+  KeptOrCleared = (leaves .after ≡ t) ⊎ ClearSent
 
   -- and nothing else of the record ever changes.
   abbrev pub OnlyStatuses : Type 0
-  OnlyStatuses = outcomeOf t request functional response .after ≡ withStatuses t (outcomeOf t request functional response .after .statuses)
+  OnlyStatuses = leaves .after ≡ withStatuses t (leaves .after .statuses)
 
   -- A record that keeps its rules keeps them through every request.
   abbrev pub SoundAfter : Type 0
-  SoundAfter = soundRecord t ≡ true → soundRecord (outcomeOf t request functional response .after) ≡ true
+  SoundAfter = soundRecord t ≡ true → soundRecord (leaves .after) ≡ true
 
   -- what is sent: 1 to 255 bytes, a positive answer that begins with service + 40, or "`7F`, service, code"; "those past the response stay"
   pub record Reply (n : ℕ) : Type 0 where
@@ -60,40 +63,43 @@ module _ (t : TrailerRecord) (request : List ℕ) (functional : Bool) (response 
     pub count : n ≡ length bytes
     pub some : 1 ≤ n
     pub most : n ≤ 255
-    pub front : take n (outcomeOf t request functional response .response) ≡ bytes
-    pub rest : drop n (outcomeOf t request functional response .response) ≡ drop n response
+    pub front : take n (leaves .response) ≡ bytes
+    pub rest : drop n (leaves .response) ≡ drop n response
 
   abbrev pub SentReply : Type 0
-  SentReply = (n : ℕ) → outcomeOf t request functional response .answer ≡ Sent n → Reply n
+  SentReply = (n : ℕ) → leaves .answer ≡ Sent n → Reply n
 
   -- Silent exactly where a record that keeps its rules is asked with the right lengths and the code is silenced by bit 7 or by the functional address.
   abbrev pub SilentExactly : Type 0
-  SilentExactly = outcomeOf t request functional response .answer ≡ Silent
+  SilentExactly = leaves .answer ≡ Silent
       ↔ ((soundRecord t ≡ true) × ((wrongLengths (length request) (length response) ≡ false) × (silentOn (requestOf request) functional (negativeOf t (requestOf request) request) ≡ true)))
 
 -- of one setting
 module _ (t : TrailerRecord) (code status : ℕ) where
+  abbrev pub sets : Setting
+  sets = settingOf t code status
+
   -- "The host can set the status of one code": that one, and nothing else,
   pub record OneSet : Type 0 where
-    pub answer : settingOf t code status .answer ≡ setting.Set
+    pub answer : sets .answer ≡ setting.Set
     pub place : placeOf (t .codes) (t .count) code < t .count
     pub code-there : getD (t .codes) (placeOf (t .codes) (t .count) code) 0 ≡ code
     pub within : statusWithin (t .availability) status ≡ true
-    pub after : settingOf t code status .after ≡ withStatuses t (set (t .statuses) (placeOf (t .codes) (t .count) code) status)
-    pub elsewhere : (i : ℕ) → i ≢ placeOf (t .codes) (t .count) code → getD (settingOf t code status .after .statuses) i 0 ≡ getD (t .statuses) i 0
+    pub after : sets .after ≡ withStatuses t (set (t .statuses) (placeOf (t .codes) (t .count) code) status)
+    pub elsewhere : (i : ℕ) → i ≢ placeOf (t .codes) (t .count) code → getD (sets .after .statuses) i 0 ≡ getD (t .statuses) i 0
 
   -- or it is refused, and the record is as it was;
   abbrev pub OneStatus : Type 0
-  OneStatus = (settingOf t code status .after ≡ t) ⊎ OneSet
+  OneStatus = (sets .after ≡ t) ⊎ OneSet
 
   -- and a record that keeps its rules keeps them.
   abbrev pub SoundSet : Type 0
-  SoundSet = soundRecord t ≡ true → soundRecord (settingOf t code status .after) ≡ true
+  SoundSet = soundRecord t ≡ true → soundRecord (sets .after) ≡ true
 
 -- ---- the proofs
 module _ (t : TrailerRecord) (request : List ℕ) (functional : Bool) (response : List ℕ) where
   abbrev left : Outcome
-  left = outcomeOf t request functional response
+  left = leaves t request functional response
 
   abbrev code : ℕ
   code = negativeOf t (requestOf request) request
@@ -213,9 +219,6 @@ module _ (t : TrailerRecord) (code status : ℕ) where
   abbrev place : ℕ
   place = placeOf (t .codes) (t .count) code
 
-  abbrev set-as : Setting
-  set-as = settingOf t code status
-
   pub one-status : OneStatus t code status
   one-status = by (soundRecord t) (heldAmong (t .codes) (t .count) code) (statusWithin (t .availability) status) refl refl refl
     where
@@ -237,5 +240,5 @@ module _ (t : TrailerRecord) (code status : ℕ) where
 
   pub sound-set : SoundSet t code status
   sound-set h =
-      ⊎-elim (λ (e : set-as .after ≡ t). ap soundRecord e ∙ h)
+      ⊎-elim (λ (e : sets t code status .after ≡ t). ap soundRecord e ∙ h)
       (λ (s : OneSet t code status). ap soundRecord (s .after) ∙ sound-with t _ h (within-way t status (set-way (t .statuses) place status) (s .within) (sound-has t h .statuses))) one-status
