@@ -111,13 +111,13 @@ clear-way t group = stored-way _ _ (t .statuses) (t .count)
 
 module _ (t : TrailerRecord) where
   pub within-way : {after : List ℕ} (status : ℕ) → EitherWay after (t .statuses) status → statusWithin (t .availability) status ≡ true → statusesWithin t ≡ true → statusesWithin (withStatuses t after) ≡ true
-  unfolding statusesWithin withStatuses
+  unfolding statusesWithin
   within-way status w e h =
       all-each _ (t .count) (λ i l. ⊎-elim (λ p. ap (statusWithin (t .availability)) p ∙ all-at _ i (t .count) h l) (λ p. ap (statusWithin (t .availability)) p ∙ e) (w .at i))
 
   -- a record that keeps its rules keeps them with other statuses that have no bit outside the mask
   pub sound-with : (statuses : List ℕ) → soundRecord t ≡ true → statusesWithin (withStatuses t statuses) ≡ true → soundRecord (withStatuses t statuses) ≡ true
-  unfolding codesBelow lengthsWithin withStatuses
+  unfolding codesBelow lengthsWithin
   sound-with statuses e h =
       let s = sound-has t e in
       sound-from _ (record { count = s .count; held = s .held; mask = s .mask; codes = s .codes; ascend = s .ascend; statuses = h; identifiers = s .identifiers; lengths = s .lengths })

@@ -19,6 +19,7 @@ use Rattle.server.specs.Silence.{silentOn}
 use Rattle.server.specs.Server.{contentOf19, contentOf22, negativeOf, negativeBytes, positiveOf, changedBy, wrongLengths, outcome, answered, outcomeOf}
 use Rattle.server.specs.declared.trailer.TrailerRecord.{TrailerRecord}
 use Rattle.server.specs.declared.requests.Request.{Request}
+use Rattle.server.specs.declared.serving.Answer.{Answer}
 use Rattle.server.specs.declared.serving.Answer.the-variants.{Refused, Silent, Sent}
 use Rattle.server.proofs.LawsFaults.{length-report, count-listed-le}
 
@@ -70,6 +71,25 @@ pub lengths-right : (n m : ℕ) → 1 ≤ n → n ≤ 255 → m ≡ 255 → wron
 unfolding wrongLengths either
 lengths-right n m a b c = rw (ne-eqb n 0 (λ z. omega arith), le-ltb 255 n b, eq-eqb m 255 c)
 
+pub same-outcome : {a b : TrailerRecord} {x y : Answer} {l m : List ℕ} → a ≡ b → x ≡ y → l ≡ m → outcome a x l ≡ outcome b y m
+same-outcome p q r = rw (p, q, r)
+
+-- ---- one law for each rung of a request that is answered
+module _ (t : TrailerRecord) (asked : Request) (request : List ℕ) (functional : Bool) (response : List ℕ) where
+  pub answered-silent : silentOn asked functional (negativeOf t asked request) ≡ true → answered t asked request functional response ≡ outcome t Silent response
+  unfolding answered
+  answered-silent c = pick-true _ _ c
+
+  pub answered-negative : silentOn asked functional (negativeOf t asked request) ≡ false → (negativeOf t asked request ≡ 0 → ⊥)
+      → answered t asked request functional response ≡ outcome t (Sent 3) (written response 0 (negativeBytes (serviceOf request) (negativeOf t asked request)))
+  unfolding answered
+  answered-negative c d = pick-false _ _ c ∙ pick-true _ _ (ap not (ne-eqb _ _ d))
+
+  pub answered-positive : silentOn asked functional (negativeOf t asked request) ≡ false → negativeOf t asked request ≡ 0
+      → answered t asked request functional response ≡ outcome (changedBy t asked) (Sent (length (positiveOf t asked request))) (written response 0 (positiveOf t asked request))
+  unfolding answered
+  answered-positive c d = pick-false _ _ c ∙ pick-false _ _ (ap not (eq-eqb _ _ d))
+
 -- ---- one law for each rung of a request's outcome
 module _ (t : TrailerRecord) (request : List ℕ) (functional : Bool) (response : List ℕ) where
   pub outcome-1 : soundRecord t ≡ false → outcomeOf t request functional response ≡ outcome t (Refused (refusal 1)) response
@@ -81,23 +101,20 @@ module _ (t : TrailerRecord) (request : List ℕ) (functional : Bool) (response 
   outcome-17 a b = pick-false _ _ (ap not a) ∙ pick-true _ _ b
 
   module _ (a : soundRecord t ≡ true) (b : wrongLengths (length request) (length response) ≡ false) {asked : Request} (read : requestOf request ≡ asked) where
-    outcome-read : outcomeOf t request functional response ≡ answered t asked request functional response
+    pub outcome-read : outcomeOf t request functional response ≡ answered t asked request functional response
     unfolding outcomeOf
     outcome-read = pick-false _ _ (ap not a) ∙ pick-false _ _ b ∙ ap (λ (r : Request). answered t r request functional response) read
 
     pub outcome-silent : silentOn asked functional (negativeOf t asked request) ≡ true → outcomeOf t request functional response ≡ outcome t Silent response
-    unfolding answered
-    outcome-silent c = outcome-read ∙ pick-true _ _ c
+    outcome-silent c = outcome-read ∙ answered-silent t asked request functional response c
 
     pub outcome-negative : silentOn asked functional (negativeOf t asked request) ≡ false → (negativeOf t asked request ≡ 0 → ⊥)
         → outcomeOf t request functional response ≡ outcome t (Sent 3) (written response 0 (negativeBytes (serviceOf request) (negativeOf t asked request)))
-    unfolding answered
-    outcome-negative c d = outcome-read ∙ pick-false _ _ c ∙ pick-true _ _ (ap not (ne-eqb _ _ d))
+    outcome-negative c d = outcome-read ∙ answered-negative t asked request functional response c d
 
     pub outcome-positive : silentOn asked functional (negativeOf t asked request) ≡ false → negativeOf t asked request ≡ 0
         → outcomeOf t request functional response ≡ outcome (changedBy t asked) (Sent (length (positiveOf t asked request))) (written response 0 (positiveOf t asked request))
-    unfolding answered
-    outcome-positive c d = outcome-read ∙ pick-false _ _ c ∙ pick-false _ _ (ap not (eq-eqb _ _ d))
+    outcome-positive c d = outcome-read ∙ answered-positive t asked request functional response c d
 
 -- ---- the five outcomes of a request, and that there are no others
 pub data Ends (t : TrailerRecord) (request : List ℕ) (functional : Bool) (response : List ℕ) : Type 0 where

@@ -1,7 +1,7 @@
 // The negative code of a request, by what it asks.
 use crate::data_identifiers::answers_length;
 use crate::faults::count_listed;
-use crate::faults::group_held;
+use crate::faults::place;
 use crate::requests::Request;
 ghost use mathlib.Core.Path.{_≡_};
 ghost use Prim.Native.Nat.{ℕ, _+_, _*_, _≤_};
@@ -16,7 +16,10 @@ fn content_of_14(codes: &[u32; 63], count: usize, group: u32) -> u8
     requires { ⌜ count ≤ 63 ⌝ }
     ensures { λ r. ⌜ r ≡ pick (either (eqb group 0xFFFFFF) (heldAmong (now (codes .entry)) count group)) 0 0x31 ⌝ }
 {
-    if group_held(codes, count, group) {
+    if group == 0xFFFFFF {
+        return 0;
+    }
+    if place(codes, count, group) < count {
         return 0;
     }
     0x31

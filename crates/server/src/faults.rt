@@ -2,12 +2,10 @@
 ghost use mathlib.Core.Path.{_≡_};
 ghost use Prim.Native.Nat.{_+_, _*_, _≤_};
 ghost use lib.Bits.{bitAnd};
-ghost use lib.Dec.{eqb};
 ghost use lib.ListN.{length, getD};
-ghost use Rattle.identifiers.specs.Choice.{either};
 ghost use Rattle.identifiers.specs.Below.{countBelow, listBelow};
 ghost use Rattle.identifiers.specs.Bytes.{Puts};
-ghost use Rattle.server.specs.Places.{placeOf, heldAmong};
+ghost use Rattle.server.specs.Places.{placeOf};
 ghost use Rattle.server.specs.Faults.{listed, codeAndStatus, twoBytes, reported, inGroup, storedBelow};
 
 // The place of a code, or count where it is not held.
@@ -23,16 +21,6 @@ pub fn place(codes: &[u32; 63], count: usize, code: u32) -> usize
         i += 1;
     }
     count
-}
-
-pub fn group_held(codes: &[u32; 63], count: usize, group: u32) -> bool
-    requires { ⌜ count ≤ 63 ⌝ }
-    ensures { λ r. ⌜ r ≡ either (eqb group 0xFFFFFF) (heldAmong (now (codes .entry)) count group) ⌝ }
-{
-    if group == 0xFFFFFF {
-        return true;
-    }
-    place(codes, count, group) < count
 }
 
 fn is_listed(all: bool, mask: u8, status: u8) -> bool
@@ -113,18 +101,18 @@ fn in_group(group: u32, code: u32) -> bool
 }
 
 // The statuses, with those of the group cleared.
-pub fn cleared(
-    codes: &[u32; 63],
-    statuses: [u8; 63],
+pub fn cleared<'a>(
+    codes: &'a [u32; 63],
+    statuses: &'a [u8; 63],
     count: usize,
     availability: u8,
     group: u32,
 ) -> [u8; 63]
     requires { ⌜ count ≤ 63 ⌝ }
-    ensures { λ r. ⌜ r ≡ storedBelow (λ i. inGroup group (getD (now (codes .entry)) i 0)) (bitAnd 0x50 availability) statuses count ⌝ }
+    ensures { λ r. ⌜ r ≡ storedBelow (λ i. inGroup group (getD (now (codes .entry)) i 0)) (bitAnd 0x50 availability) (now (statuses .entry)) count ⌝ }
 {
     let status = 0x50 & availability;
-    let mut after = statuses;
+    let mut after = *statuses;
     let mut i = 0;
     while i < count {
         if in_group(group, codes[i]) {

@@ -1,8 +1,8 @@
 // A request is read once: what it asks, with its numbers, or which check of its form fails.
 ghost use mathlib.Core.Path.{_≡_};
-ghost use Prim.Native.Nat.{_<_};
+ghost use Prim.Native.Nat.{_<_, _≤_};
 ghost use lib.ListN.{length};
-ghost use Rattle.server.specs.Requests.{serviceOf, subFunctionOf, silencing, maskOf, groupOf, sized, formOf14, formOf19, formOf22, formOf3E, requestOf};
+ghost use Rattle.server.specs.Requests.{maskOf, groupOf, sized, formOf14, formOf19, formOf22, formOf3E, requestOf};
 
 // The checks that fail, then each request of document 01 with its numbers, `silent` where bit 7 of its sub-function is set.
 pub enum Request {
@@ -103,19 +103,11 @@ fn form_of_3E(request: &[u8]) -> Request
     Request::UnknownSubFunction
 }
 
-pub fn service(request: &[u8]) -> u8
-    ensures { λ r. ⌜ r ≡ serviceOf (now (request .entry)) ⌝ }
-{
-    if request.len() < 1 {
-        return 0;
-    }
-    request[0]
-}
-
 pub fn read_request(request: &[u8]) -> Request
+    requires { ⌜ 1 ≤ length (now request) ⌝ }
     ensures { λ r. ⌜ r ≡ requestOf (now (request .entry)) ⌝ }
 {
-    let service = service(request);
+    let service = request[0];
     match service {
         0x14 => form_of_14(request),
         0x19 => form_of_19(request),

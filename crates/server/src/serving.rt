@@ -5,16 +5,17 @@ use crate::checks::negative;
 use crate::faults::cleared;
 use crate::requests::Request;
 use crate::requests::read_request;
-use crate::requests::service;
 use crate::silence::silent_on;
 use crate::trailer::TrailerRecord;
 use crate::trailer::sound;
 use identifiers::Refusal;
 ghost use mathlib.Core.Path.{_≡_};
+ghost use mathlib.Core.Bool.{true, false};
 ghost use mathlib.Core.List.{List};
 ghost use Prim.Native.Nat.{ℕ, _≤_};
+ghost use lib.ListN.{length};
 ghost use Rattle.server.specs.Trailer.{soundRecord, withStatuses, recordOf};
-ghost use Rattle.server.specs.Server.{changedBy, wrongLengths, outcome, outcomeOf};
+ghost use Rattle.server.specs.Server.{changedBy, wrongLengths, outcome, answered, outcomeOf};
 ghost use Rattle.server.specs.Told.{answerTold};
 
 pub enum Answer {
@@ -68,59 +69,54 @@ fn wrong_lengths(request: usize, response: usize) -> bool
 }
 
 // The statuses after a positive answer, whatever the data identifiers: nothing else of a record changes.
-fn statuses_after(
-    codes: &[u32; 63],
-    statuses: [u8; 63],
+fn statuses_after<'a>(
+    codes: &'a [u32; 63],
+    statuses: &'a [u8; 63],
     count: usize,
     availability: u8,
     asked: Request,
 ) -> [u8; 63]
     requires { ⌜ count ≤ 63 ⌝ }
     ensures { λ r. ⌜ ((identifiers lengths bytes : List ℕ) (held : ℕ)
-        → recordOf (now (codes .entry)) r count availability identifiers lengths bytes held ≡ changedBy (recordOf (now (codes .entry)) statuses count availability identifiers lengths bytes held) asked) ⌝ }
+        → recordOf (now (codes .entry)) r count availability identifiers lengths bytes held ≡ changedBy (recordOf (now (codes .entry)) (now (statuses .entry)) count availability identifiers lengths bytes held) asked) ⌝ }
 {
     if let Request::ClearGroup { group } = asked {
         return cleared(codes, statuses, count, availability, group);
     }
-    statuses
+    *statuses
 }
 
-fn leaves(statuses: [u8; 63], answer: Answer) -> Served
-    ensures { λ r. ⌜ (r .statuses ≡ statuses) × (r .answer ≡ answer) ⌝ }
+// The statuses as they were, with an answer.
+fn unchanged(statuses: &[u8; 63], answer: Answer) -> Served
+    ensures { λ r. ⌜ (r .statuses ≡ now (statuses .entry)) × (r .answer ≡ answer) ⌝ }
 {
+    let statuses = *statuses;
     Served { statuses, answer }
 }
 
-// Answers one request: refusal 1 where the record did not keep its rules, 17 for the lengths.
+// Answers a request as it was read, to a record that keeps its rules.
 // The negative code, the length and the silence are known before the first byte is written.
-fn respond<'a>(
-    kept: bool,
+fn answered<'a>(
     codes: &'a [u32; 63],
-    statuses: [u8; 63],
+    statuses: &'a [u8; 63],
     count: usize,
     availability: u8,
     identifiers: &'a [u16; 16],
     lengths: &'a [u8; 16],
     bytes: &'a [u8; 512],
     held: usize,
+    asked: Request,
     request: &[u8],
     functional: bool,
     response: &mut [u8],
 ) -> Served
-    requires { ⌜ kept ≡ soundRecord (recordOf (now codes) statuses count availability (now identifiers) (now lengths) (now bytes) held) ⌝ }
+    requires { ⌜ (soundRecord (recordOf (now codes) (now statuses) count availability (now identifiers) (now lengths) (now bytes) held) ≡ true) × (wrongLengths (length (now request)) (length (now response)) ≡ false) ⌝ }
     ensures { λ r. ⌜ outcome (recordOf (now (codes .entry)) (r .statuses) count availability (now (identifiers .entry)) (now (lengths .entry)) (now (bytes .entry)) held) (r .answer) (now (response .exit))
-        ≡ outcomeOf (recordOf (now (codes .entry)) statuses count availability (now (identifiers .entry)) (now (lengths .entry)) (now (bytes .entry)) held) (now (request .entry)) functional (now (response .entry)) ⌝ }
+        ≡ answered (recordOf (now (codes .entry)) (now (statuses .entry)) count availability (now (identifiers .entry)) (now (lengths .entry)) (now (bytes .entry)) held) asked (now (request .entry)) functional (now (response .entry)) ⌝ }
 {
-    if !kept {
-        return leaves(statuses, Answer::Refused(Refusal::RulesBroken));
-    }
-    if wrong_lengths(request.len(), response.len()) {
-        return leaves(statuses, Answer::Refused(Refusal::WrongLength));
-    }
-    let asked = read_request(request);
     let code = negative(
         codes,
-        &statuses,
+        statuses,
         count,
         identifiers,
         lengths,
@@ -130,15 +126,15 @@ fn respond<'a>(
         request,
     );
     if silent_on(asked, functional, code) {
-        return leaves(statuses, Answer::Silent);
+        return unchanged(statuses, Answer::Silent);
     }
     if code != 0 {
-        let n = put_negative(response, service(request), code);
-        return leaves(statuses, Answer::Sent(n));
+        let n = put_negative(response, request[0], code);
+        return unchanged(statuses, Answer::Sent(n));
     }
     let n = put_positive(
         codes,
-        &statuses,
+        statuses,
         count,
         availability,
         identifiers,
@@ -149,8 +145,56 @@ fn respond<'a>(
         request,
         response,
     );
-    let after = statuses_after(codes, statuses, count, availability, asked);
-    leaves(after, Answer::Sent(n))
+    let statuses = statuses_after(codes, statuses, count, availability, asked);
+    let answer = Answer::Sent(n);
+    Served { statuses, answer }
+}
+
+// Refusal 1 where the record breaks its rules, 17 for the lengths; else the request is read and answered.
+fn respond<'a>(
+    codes: &'a [u32; 63],
+    statuses: &'a [u8; 63],
+    count: u8,
+    availability: u8,
+    identifiers: &'a [u16; 16],
+    lengths: &'a [u8; 16],
+    bytes: &'a [u8; 512],
+    held: u8,
+    request: &[u8],
+    functional: bool,
+    response: &mut [u8],
+) -> Served
+    ensures { λ r. ⌜ outcome (recordOf (now (codes .entry)) (r .statuses) count availability (now (identifiers .entry)) (now (lengths .entry)) (now (bytes .entry)) held) (r .answer) (now (response .exit))
+        ≡ outcomeOf (recordOf (now (codes .entry)) (now (statuses .entry)) count availability (now (identifiers .entry)) (now (lengths .entry)) (now (bytes .entry)) held) (now (request .entry)) functional (now (response .entry)) ⌝ }
+{
+    if !sound(
+        codes,
+        statuses,
+        count,
+        availability,
+        identifiers,
+        lengths,
+        held,
+    ) {
+        return unchanged(statuses, Answer::Refused(Refusal::RulesBroken));
+    }
+    if wrong_lengths(request.len(), response.len()) {
+        return unchanged(statuses, Answer::Refused(Refusal::WrongLength));
+    }
+    answered(
+        codes,
+        statuses,
+        count as usize,
+        availability,
+        identifiers,
+        lengths,
+        bytes,
+        held as usize,
+        read_request(request),
+        request,
+        functional,
+        response,
+    )
 }
 
 // Answers one request.
@@ -159,26 +203,15 @@ pub fn serve(record: TrailerRecord, request: &[u8], functional: bool, response: 
         × ((r .answer ≡ outcomeOf «record» (now (request .entry)) functional (now (response .entry)) .answer)
         × (now (response .exit) ≡ outcomeOf «record» (now (request .entry)) functional (now (response .entry)) .response)) ⌝ }
 {
-    let kept = sound(
+    respond(
         &record.codes,
         &record.statuses,
         record.count,
         record.availability,
         &record.identifiers,
         &record.lengths,
-        record.held,
-    );
-    let before = record.statuses;
-    respond(
-        kept,
-        &record.codes,
-        before,
-        record.count as usize,
-        record.availability,
-        &record.identifiers,
-        &record.lengths,
         &record.bytes,
-        record.held as usize,
+        record.held,
         request,
         functional,
         response,

@@ -1,6 +1,9 @@
 -- `put_positive` meets its contract: case by case.
+use mathlib.Core.Path.{_∙_}
+use native.Mathlib.Omega.{arith}
 use borrow.Author.Needs.{needs}
-use Rattle.identifiers.proofs.LawsBytes.{puts-none, keeps-length}
+use lib.ListN.{length-set}
+use Rattle.identifiers.proofs.LawsBytes.{puts-none, puts-byte, keeps-length, _▸_}
 use Rattle.server.specs.Trailer.{lengthsWithin}
 use Rattle.server.specs.Faults.{countListed, reportOf}
 use Rattle.server.specs.DataIdentifiers.{dataOf, identifierAndData, answerTo, answersOf}
@@ -9,11 +12,11 @@ use Rattle.server.proofs.LawsServer.{fits-22}
 use Rattle.server.proofs.answers.put_positive.Statement.{statement}
 use Rattle.server.proofs.answers.put_positive.Tie as tie
 
-put-data-read-requires : tie.Need-put-data-read-requires
+put-answers-requires : tie.Need-put-answers-requires
 unfolding negativeOf lengthsWithin answersOf answerTo identifierAndData dataOf
-put-data-read-requires c κs =
+put-answers-requires c κs =
     let p = c .before .before .before .before .before .pre in
-    (p .1 .0, (p .1 .1 .0, (p .1 .1 .1 .0, (p .1 .1 .1 .1 .0, fits-22 _ _ (rw (c .before .enum-told7 .given .1) at (p .1 .1 .1 .1 .1))))))
+    (p .1 .0, (p .1 .1 .0, (p .1 .1 .1 .0, simp length-set (omega (arith, p .1 .1 .1 .1 .0, fits-22 _ _ (rw (c .before .enum-told7 .given .1) at (p .1 .1 .1 .1 .1)))))))
 
 returns : tie.Need-returns
 unfolding positiveOf
@@ -31,12 +34,9 @@ returns-4 : tie.Need-returns-4
 unfolding positiveOf
 returns-4 c = rw (c .enum-told4 .given .1) (puts-none _ 0)
 
-same-length : tie.Need-same-length
-same-length c = keeps-length (c .before .before .put-cleared .ensures)
-
 returns-5 : tie.Need-returns-5
 unfolding positiveOf
-returns-5 c = rw (c .before .before .before .before .enum-told5 .given .1) (c .before .before .put-cleared .ensures)
+returns-5 c = rw (c .enum-told5 .given .1) (puts-byte _ 0 0x54)
 
 same-length-2 : tie.Need-same-length-2
 same-length-2 c = keeps-length (c .before .before .put-count .ensures)
@@ -60,18 +60,15 @@ unfolding positiveOf reportOf
 returns-8 c = rw (c .before .before .before .before .enum-told6 .given .1) (c .before .before .put-list2 .ensures)
 
 same-length-5 : tie.Need-same-length-5
-same-length-5 c = keeps-length (c .before .before .put-data-read .ensures)
+same-length-5 c = keeps-length (c .before .before .put-answers .ensures) ∙ simp length-set
 
 returns-9 : tie.Need-returns-9
 unfolding positiveOf answersOf answerTo identifierAndData dataOf
-returns-9 c = rw (c .before .before .before .before .enum-told7 .given .1) (c .before .before .put-data-read .ensures)
-
-same-length-6 : tie.Need-same-length-6
-same-length-6 c = keeps-length (c .before .before .put-present .ensures)
+returns-9 c = rw (c .before .before .before .before .enum-told7 .given .1) (puts-byte _ 0 0x62 ▸ (c .before .before .put-answers .ensures))
 
 returns-10 : tie.Need-returns-10
 unfolding positiveOf
-returns-10 c = rw (c .before .before .before .before .enum-told8 .given .1) (c .before .before .put-present .ensures)
+returns-10 c = rw (c .enum-told8 .given .1) (puts-byte _ 0 0x7E ▸ puts-byte _ 1 0x00)
 
 pub put-positive-spec : {M : Type 1} → statement M
 put-positive-spec = tie.close (tie.spec
@@ -80,7 +77,7 @@ put-positive-spec = tie.close (tie.spec
     (λ c. search needs)
     (λ c. search needs)
     (λ c. search needs)
-    (λ c κs. search needs)
+    (λ c. search needs)
     (λ c. search needs)
     (λ c κs. search needs)
     (λ c. search needs)
@@ -88,14 +85,16 @@ put-positive-spec = tie.close (tie.spec
     (λ c. search needs)
     (λ c κs. search needs)
     (λ c. search needs)
-    put-data-read-requires
     (λ c. search needs)
-    (λ c κs. search needs)
+    put-answers-requires
+    (λ c. search needs)
+    (λ c. search needs)
+    (λ c. search needs)
     returns
     returns-2
     returns-3
     returns-4
-    same-length
+    (λ c. search needs)
     returns-5
     same-length-2
     returns-6
@@ -105,5 +104,5 @@ put-positive-spec = tie.close (tie.spec
     returns-8
     same-length-5
     returns-9
-    same-length-6
+    (λ c. search needs)
     returns-10)

@@ -11,10 +11,10 @@ use Rattle.server.proofs.faults.cleared.Statement.{statement}
 use Rattle.server.proofs.faults.cleared.Tie as tie
 
 abbrev Inv-loop : tie.InvT-loop
-Inv-loop codes count availability group status after₀ i₀ after i = (i ≤ count) × (after ≡ storedBelow (λ (m : ℕ). inGroup group (getD codes m 0)) status after₀ i)
+Inv-loop codes statuses count availability group status after₀ i₀ after i = (i ≤ count) × (after ≡ storedBelow (λ (m : ℕ). inGroup group (getD codes m 0)) status after₀ i)
 
 abbrev μ-loop : tie.MeasureT-loop
-μ-loop codes count availability group status after₀ i₀ after i = count - i
+μ-loop codes statuses count availability group status after₀ i₀ after i = count - i
 
 loop-holds : tie.Need-loop-holds Inv-loop μ-loop
 loop-holds c = (search needs, sym (stored-none _ _ _))
@@ -26,7 +26,7 @@ loop-again c =
     (λ w. (search needs, w .1 ∙ l .inv .1 ∙ stored-miss _ _ _ _ (sym (c .before .in-group .ensures) ∙ w .0 .left))) (c .if1 .came)
 
 returns : tie.Need-returns Inv-loop μ-loop
-returns c = let e : c .before .before .args .count ≡ c .before .loop .i = omega arith in rw e (c .before .loop .inv .1)
+returns c = let e : c .before .before .before .args .count ≡ c .before .loop .i = omega arith in rw e (c .before .loop .inv .1)
 
 pub cleared-spec : {M : Type 1} → statement M
 cleared-spec = tie.close (tie.spec

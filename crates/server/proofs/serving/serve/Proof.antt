@@ -5,9 +5,6 @@ use Rattle.server.specs.Server.{Outcome}
 use Rattle.server.proofs.serving.serve.Statement.{statement}
 use Rattle.server.proofs.serving.serve.Tie as tie
 
-respond-requires : tie.Need-respond-requires
-respond-requires c κs = c .before .before .before .before .before .before .before .sound .ensures _
-
 returns : tie.Need-returns
 returns c =
     let done = c .before .before .respond .ensures in
@@ -16,8 +13,5 @@ returns c =
 pub serve-spec : {M : Type 1} → statement M
 serve-spec = tie.close (tie.spec
     (λ c κs. tt)
-    (λ c. search needs)
-    (λ c. search needs)
-    respond-requires
     (λ c. search needs)
     returns)

@@ -35,7 +35,7 @@ unchanged t Request.ReadData ks n k = refl
 unchanged t (Request.TesterPresent silent) ks n k = refl
 
 returns-2 : tie.Need-returns-2
-returns-2 c = λ identifiers lengths bytes held. unchanged _ _ (0 ∷ 1 ∷ 2 ∷ 3 ∷ 5 ∷ 6 ∷ 7 ∷ 8 ∷ 9 ∷ []) tt (c .match .keys2)
+returns-2 c = λ identifiers lengths bytes held. unchanged _ _ (0 ∷ 1 ∷ 2 ∷ 3 ∷ 5 ∷ 6 ∷ 7 ∷ 8 ∷ 9 ∷ []) tt (c .before .match .keys2)
 
 pub statuses-after-spec : {M : Type 1} → statement M
 statuses-after-spec = tie.close (tie.spec
