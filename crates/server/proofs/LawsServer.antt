@@ -71,10 +71,11 @@ pub lengths-right : (n m : ℕ) → 1 ≤ n → n ≤ 255 → m ≡ 255 → wron
 unfolding wrongLengths either
 lengths-right n m a b c = rw (ne-eqb n 0 (λ z. omega arith), le-ltb 255 n b, eq-eqb m 255 c)
 
+-- ---- one law for each rung of a request that is answered
+-- an outcome is its record, its answer and its response
 pub same-outcome : {a b : TrailerRecord} {x y : Answer} {l m : List ℕ} → a ≡ b → x ≡ y → l ≡ m → outcome a x l ≡ outcome b y m
 same-outcome p q r = rw (p, q, r)
 
--- ---- one law for each rung of a request that is answered
 module _ (t : TrailerRecord) (asked : Request) (request : List ℕ) (functional : Bool) (response : List ℕ) where
   pub answered-silent : silentOn asked functional (negativeOf t asked request) ≡ true → answered t asked request functional response ≡ outcome t Silent response
   unfolding answered
