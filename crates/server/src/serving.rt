@@ -15,6 +15,7 @@ ghost use mathlib.Core.List.{List};
 ghost use Prim.Native.Nat.{ℕ, _≤_};
 ghost use lib.ListN.{length};
 ghost use Rattle.server.specs.Trailer.{soundRecord, withStatuses, recordOf};
+ghost use Rattle.server.specs.Requests.{requestOf};
 ghost use Rattle.server.specs.Server.{changedBy, wrongLengths, outcome, answered, outcomeOf};
 ghost use Rattle.server.specs.Told.{answerTold};
 
@@ -94,7 +95,7 @@ fn unchanged(statuses: &[u8; 63], answer: Answer) -> Served
     Served { statuses, answer }
 }
 
-// Answers a request as it was read, to a record that keeps its rules.
+// Reads a request and answers it, to a record that keeps its rules.
 // The negative code, the length and the silence are known before the first byte is written.
 fn answered<'a>(
     codes: &'a [u32; 63],
@@ -105,15 +106,15 @@ fn answered<'a>(
     lengths: &'a [u8; 16],
     bytes: &'a [u8; 512],
     held: usize,
-    asked: Request,
     request: &[u8],
     functional: bool,
     response: &mut [u8],
 ) -> Served
     requires { ⌜ (soundRecord (recordOf (now codes) (now statuses) count availability (now identifiers) (now lengths) (now bytes) held) ≡ true) × (wrongLengths (length (now request)) (length (now response)) ≡ false) ⌝ }
     ensures { λ r. ⌜ outcome (recordOf (now (codes .entry)) (r .statuses) count availability (now (identifiers .entry)) (now (lengths .entry)) (now (bytes .entry)) held) (r .answer) (now (response .exit))
-        ≡ answered (recordOf (now (codes .entry)) (now (statuses .entry)) count availability (now (identifiers .entry)) (now (lengths .entry)) (now (bytes .entry)) held) asked (now (request .entry)) functional (now (response .entry)) ⌝ }
+        ≡ answered (recordOf (now (codes .entry)) (now (statuses .entry)) count availability (now (identifiers .entry)) (now (lengths .entry)) (now (bytes .entry)) held) (requestOf (now (request .entry))) (now (request .entry)) functional (now (response .entry)) ⌝ }
 {
+    let asked = read_request(request);
     let code = negative(
         codes,
         statuses,
@@ -150,7 +151,7 @@ fn answered<'a>(
     Served { statuses, answer }
 }
 
-// Refusal 1 where the record breaks its rules, 17 for the lengths; else the request is read and answered.
+// Refusal 1 where the record breaks its rules, 17 for the lengths; else the request is answered.
 fn respond<'a>(
     codes: &'a [u32; 63],
     statuses: &'a [u8; 63],
@@ -190,7 +191,6 @@ fn respond<'a>(
         lengths,
         bytes,
         held as usize,
-        read_request(request),
         request,
         functional,
         response,

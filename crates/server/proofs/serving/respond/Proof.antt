@@ -9,7 +9,7 @@ use lib.ListN.{length}
 use Rattle.server.specs.Trailer.{soundRecord, recordOf}
 use Rattle.server.specs.Server.{wrongLengths}
 use Rattle.server.specs.declared.trailer.TrailerRecord.{TrailerRecord}
-use Rattle.server.proofs.LawsServer.{right-lengths, same-outcome, outcome-1, outcome-17, outcome-read}
+use Rattle.server.proofs.LawsServer.{same-outcome, outcome-1, outcome-17, outcome-read}
 use Rattle.server.proofs.serving.respond.Statement.{statement}
 use Rattle.server.proofs.serving.respond.Tie as tie
 
@@ -42,17 +42,11 @@ returns-2 c =
     let start = k .before .before .before .before in
     same-outcome (ap (with start) (l .0)) (l .1) refl ∙ sym (outcome-17 _ _ _ _ (kept k) (sym (c .before .before .wrong-lengths .ensures) ∙ c .before .if2 .taken))
 
-read-request-requires : tie.Need-read-request-requires
-read-request-requires c κs = right-lengths _ _ (right c) .0
-
 answered-requires : tie.Need-answered-requires
-answered-requires c κs = let k = c .before .before in (kept (k .before .before), right k)
+answered-requires c κs = let k = c .before in (kept (k .before .before), right k)
 
 returns-3 : tie.Need-returns-3
-returns-3 c =
-    let read = c .before .before .before .before in
-    let k = read .before in
-    c .before .before .answered .ensures ∙ sym (outcome-read _ _ _ _ (kept (k .before .before)) (right k) (sym (read .read-request .ensures)))
+returns-3 c = let k = c .before .before .before .before in c .before .before .answered .ensures ∙ sym (outcome-read _ _ _ _ (kept (k .before .before)) (right k) refl)
 
 pub respond-spec : {M : Type 1} → statement M
 respond-spec = tie.close (tie.spec
@@ -62,7 +56,6 @@ respond-spec = tie.close (tie.spec
     (λ c κs. tt)
     (λ c κs. tt)
     returns-2
-    read-request-requires
     answered-requires
     (λ c. search needs)
     returns-3)
