@@ -7,10 +7,10 @@ use borrow.Author.Tests.{eqb-true, eqb-false}
 use lib.Dec.{eqb}
 use Rattle.identifiers.proofs.LawsChoice.{pick-true, pick-false}
 use Rattle.readings.specs.declared.position.Position.{Position}
-use Rattle.receiver.specs.declared.step.Outcome.{Outcome}
-use Rattle.receiver.specs.Steps.{outcomeTold}
+use Rattle.receiver.specs.declared.outcome.Outcome.{Outcome}
+use Rattle.receiver.specs.Outcomes.{outcomeTold}
 use Rattle.receiver.specs.Shown.{toldMessage}
-use Rattle.trains.specs.Sequences.{Line, start, _▹_, size, Request, Reading}
+use Rattle.trains.specs.Sequences.{Line, start, _▹_, size, Request, ReadAs}
 use Rattle.trains.specs.Runs.{Held, answer, next, offered, handed, requests}
 use Rattle.trains.proofs.LawsRuns.{offered-none, offered-more, requests-none, requests-more, HandsOut, hands-nothing, hands-one}
 use Rattle.trains.proofs.Demand3.{Fresh, requests-are-the-reading}
@@ -21,7 +21,7 @@ use Rattle.castanhiu.specs.Hosts.{hosted, Got, gotFrom, got, inNumbers}
 -- "The requests it hands out are exactly the single frames and the complete trains standing in that sequence. Each comes once, at its last frame, with the bytes its frames carry":
 -- what the host gets is the reading of the sequence, in numbers; each sequence has a reading, and one only (trains/Demand3.some-reading, one-reading)
 abbrev pub HostGetsTheReading : Position → ℕ → Held → Type 0
-HostGetsTheReading own unit x = (h : Line) (r : List Request) → Reading own unit h r → got x h ≡ inNumbers r
+HostGetsTheReading own unit x = (h : Line) (r : List Request) → ReadAs own unit h r → got x h ≡ inNumbers r
 
 -- ---- the proof
 in-numbers-append : (r s : List Request) → inNumbers (r ++ s) ≡ inNumbers r ++ inNumbers s

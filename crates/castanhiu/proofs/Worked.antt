@@ -23,17 +23,19 @@ use Rattle.readings.specs.declared.position.Vehicle.the-variants.{At}
 use Rattle.readings.specs.declared.position.AddressTaken.the-variants as address
 use Rattle.readings.specs.declared.reading.Reading.the-variants.{Value}
 use Rattle.readings.specs.declared.reading.ParameterRead.the-variants as parameter
-use Rattle.receiver.specs.Receptions.{soundReception}
+use Rattle.receiver.specs.Receptions.{soundReception, regionAt}
+use Rattle.receiver.specs.Addressings.{unitIs, diagnostic, destinationOf, addressedFrom, addressedBy, addressedRead, addressingOf}
+use Rattle.receiver.specs.Frames.{Frame, singleOf, firstLength, firstOf, carriedOf, judgedFrom, judgedOf}
+use Rattle.receiver.specs.Steps.{gapOf, leaving, closing, opened, doneOf, leftOf, takenStep, followed, stepOf, writtenBy}
+use Rattle.receiver.specs.Receiving.{stepBy, ownOf, judgedAt, judgedBy, movedBy, movedOf, storedIn, receivedOf, bufferAfter}
 use Rattle.receiver.specs.Nodes.{receptionAt, withReception, soundNode, freshNode}
-use Rattle.receiver.specs.Frames.{Frame, singleOf, firstLength, firstOf, kindOf, unitIs, diagnostic, destinationOf, addressedFrom, addressedOf, judgedRead, judgedOf}
-use Rattle.receiver.specs.Steps.{gapOf, regionAt, kept, shut, opened, doneOf, leftOf, takenStep, followed, stepOf, stepBy, ownOf, receivedBy, receivedAt, receivedOf, writtenBy, bufferAt, bufferAfter}
 use Rattle.receiver.specs.Shown.{shownOf}
-use Rattle.receiver.specs.Cuts.{framesOf, noFrame, physicalTo, framedAs, framed, headed, pieceOf, between, cutOf}
+use Rattle.receiver.specs.Cuts.{frameCount, noFrame, physicalTo, framedAs, framed, headed, pieceOf, between, cutOf}
 use Rattle.trains.specs.Sequences.{start, _▹_, size, Request}
 use Rattle.trains.specs.Runs.{Held, answer, offered, handed, handedAt, requests}
 use Rattle.receiver.specs.declared.node.Answer.the-variants.{Done}
-use Rattle.receiver.specs.declared.step.Outcome.{Outcome}
-use Rattle.receiver.specs.declared.step.Outcome.the-variants as outcome
+use Rattle.receiver.specs.declared.outcome.Outcome.{Outcome}
+use Rattle.receiver.specs.declared.outcome.Outcome.the-variants as outcome
 use Rattle.server.specs.Mask.{maskKept}
 use Rattle.server.specs.Places as places
 use Rattle.server.specs.Trailer.{ascending, codesBelow, statusWithin, statusesWithin, lengthWithin, lengthsWithin, soundRecord}
@@ -117,9 +119,9 @@ pub record Worked : Type 0 where
   -- "Number 2 instead: 13."
   pub wrong-number : answered 0x22 0 0 ≡ outcome.Refused (refusal 13)
   -- "L 7: one consecutive frame;"
-  pub seven : framesOf 7 ≡ 1 + 1
+  pub seven : frameCount 7 ≡ 1 + 1
   -- "255: 42, the last with number 10 and 4 bytes."
-  pub most : framesOf 255 ≡ 1 + 42
+  pub most : frameCount 255 ≡ 1 + 42
   pub last : cutOf (message 255) 42 0 1 0x05
       ≡ record { answer = Done; identifier = 0x18CEC9EB; length = 2 + 4; «data» = 0x05 ∷ (0x20 + 10) ∷ 251 ∷ 252 ∷ 253 ∷ 254 ∷ 0 ∷ 0 ∷ [] }
   -- "stamps `FFFFFFF0`, `00000086`: gap 150, taken;"
@@ -155,7 +157,7 @@ pub record Worked : Type 0 where
   pub short-bytes : response (0x3E ∷ []) ≡ 0x7F ∷ 0x3E ∷ 0x13 ∷ replicate 252 0xAA
 
 pub worked : Worked
-unfolding round pick both either allBelow countBelow listBelow written formula reservedBit fieldsOf frameRead readOf writtenAs targetOf fraction kinds.kindOf kinds.highByte kinds.wholeOf addresses addressOf positions vehicleAmong vehicleOf positionAt trailerAt successorOf nextOf takenAs takenAfter bare valued inRange measuredBy measuredAs parameterOf soundReception receptionAt withReception soundNode freshNode singleOf firstLength firstOf kindOf unitIs diagnostic destinationOf addressedFrom addressedOf judgedRead judgedOf gapOf regionAt kept shut opened doneOf leftOf takenStep followed stepOf stepBy ownOf receivedBy receivedAt receivedOf writtenBy bufferAt bufferAfter shownOf framesOf noFrame physicalTo framedAs framed headed pieceOf between cutOf size offered handed handedAt requests maskKept places.firstBelow places.placeOf places.heldAmong ascending codesBelow statusWithin statusesWithin lengthWithin lengthsWithin soundRecord matches listed countListed twoBytes codeAndStatus reported reportOf groupHeld inGroup storedBelow clearedOf askedCount askedAt dataOf identifierAndData answerTo answersOf serviceOf subFunctionOf silencing maskOf groupOf sized formOf14 formOf19 formOf22 formOf3E requestBy requestOf silenced quietCode silentOn contentOf14 contentOf19 contentOf22 negativeOf negativeBytes positiveOf changedBy wrongLengths answeredTo outcomeOf
+unfolding round pick both either allBelow countBelow listBelow written formula reservedBit fieldsOf frameRead readOf writtenAs targetOf fraction kinds.kindOf kinds.highByte kinds.wholeOf addresses addressOf positions vehicleAmong vehicleOf positionAt trailerAt successorOf nextOf takenAs takenAfter bare valued inRange measuredBy measuredAs parameterOf soundReception receptionAt withReception soundNode freshNode singleOf firstLength firstOf carriedOf unitIs diagnostic destinationOf addressedFrom addressedBy addressedRead addressingOf judgedFrom judgedOf gapOf regionAt leaving closing opened doneOf leftOf takenStep followed stepOf stepBy ownOf judgedAt judgedBy movedBy movedOf storedIn receivedOf writtenBy bufferAfter shownOf frameCount noFrame physicalTo framedAs framed headed pieceOf between cutOf size offered handed handedAt requests maskKept places.firstBelow places.placeOf places.heldAmong ascending codesBelow statusWithin statusesWithin lengthWithin lengthsWithin soundRecord matches listed countListed twoBytes codeAndStatus reported reportOf groupHeld inGroup storedBelow clearedOf askedCount askedAt dataOf identifierAndData answerTo answersOf serviceOf subFunctionOf silencing maskOf groupOf sized formOf14 formOf19 formOf22 formOf3E requestBy requestOf silenced quietCode silentOn contentOf14 contentOf19 contentOf22 negativeOf negativeBytes positiveOf changedBy wrongLengths answeredTo outcomeOf
 worked =
     record {
       identifier = refl;

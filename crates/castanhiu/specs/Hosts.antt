@@ -5,9 +5,9 @@ use Prim.Native.Nat.{ℕ}
 use lib.Dec.{eqb}
 use Rattle.identifiers.specs.Choice.{pick}
 use Rattle.readings.specs.Positions.{placeOf}
-use Rattle.receiver.specs.declared.step.OutcomeTold.{OutcomeTold}
+use Rattle.receiver.specs.declared.outcome.OutcomeTold.{OutcomeTold}
 use Rattle.receiver.specs.Frames.{Frame}
-use Rattle.receiver.specs.Steps.{receivedOf, bufferAfter}
+use Rattle.receiver.specs.Receiving.{receivedOf, bufferAfter}
 use Rattle.receiver.specs.Shown.{toldMessage}
 use Rattle.trains.specs.Sequences.{Line, start, _▹_, size, Request}
 use Rattle.trains.specs.Runs.{Held}

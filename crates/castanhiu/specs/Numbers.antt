@@ -9,11 +9,11 @@ use Rattle.readings.specs.declared.routing.Routed.{Routed}
 use Rattle.readings.specs.declared.routing.Routed.the-variants.{Refused}
 use Rattle.readings.specs.declared.routing.Side.the-variants.{Predecessor, Successor}
 use Rattle.receiver.specs.Nodes.{answerNumber}
-use Rattle.receiver.specs.Steps.{outcomeTold}
-use Rattle.receiver.specs.Cuts.{controlOf, noFrame}
+use Rattle.receiver.specs.Outcomes.{outcomeTold}
+use Rattle.receiver.specs.Cuts.{flowControlOf, noFrame}
 use Rattle.receiver.specs.declared.node.Changed.{Changed}
-use Rattle.receiver.specs.declared.step.Control.the-variants.{Continue, Overflow}
-use Rattle.receiver.specs.declared.step.Received.{Received}
+use Rattle.receiver.specs.declared.outcome.Control.the-variants.{Continue, Overflow}
+use Rattle.receiver.specs.declared.receiving.Received.{Received}
 use Rattle.receiver.specs.declared.cutter.FrameCut.{FrameCut}
 use Rattle.castanhiu.specs.declared.node.NodeChanged.{NodeChanged}
 use Rattle.castanhiu.specs.declared.node.FrameReceived.{FrameReceived}
@@ -27,7 +27,7 @@ routeFrom side own successor number count =
 -- the control by its number, as the outcome of a frame says it is due: 1 continue, 2 overflow; no other frame can be written: 16
 unfoldable pub controlNumbered : ℕ → ℕ → ℕ → ℕ → FrameCut
 controlNumbered control from to unit =
-    pick (eqb control 1) (controlOf Continue from to unit) (pick (eqb control 2) (controlOf Overflow from to unit) noFrame)
+    pick (eqb control 1) (flowControlOf Continue from to unit) (pick (eqb control 2) (flowControlOf Overflow from to unit) noFrame)
 
 -- a node with its answer in document 01's numbers
 unfoldable pub changedTold : Changed → NodeChanged

@@ -1,6 +1,6 @@
 // The frames that the node sends: flow control, and the frames of a message.
 ghost use mathlib.Core.Path.{_≡_};
-ghost use Rattle.receiver.specs.Cuts.{framesOf, cutOf, cutTold};
+ghost use Rattle.receiver.specs.Cuts.{frameCount, cutOf, cutTold};
 ghost use Rattle.castanhiu.specs.Numbers.{controlNumbered};
 use identifiers::Refusal;
 use receiver::Control;
@@ -30,7 +30,7 @@ pub extern "C" fn castanhiu_flow_control(control: u8, from: u8, to: u8, unit: u8
 
 #[no_mangle]
 pub extern "C" fn castanhiu_frame_count(total: usize) -> usize
-    ensures { λ r. ⌜ r ≡ framesOf total ⌝ }
+    ensures { λ r. ⌜ r ≡ frameCount total ⌝ }
 {
     frame_count(total)
 }

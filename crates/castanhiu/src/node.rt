@@ -1,7 +1,7 @@
 // The node, by value in and out: made, given an address, offered a frame.
 ghost use mathlib.Core.Path.{_≡_};
 ghost use Rattle.receiver.specs.Nodes.{startOf, freshOf, takenBy};
-ghost use Rattle.receiver.specs.Steps.{receivedOf, bufferAfter};
+ghost use Rattle.receiver.specs.Receiving.{receivedOf, bufferAfter};
 ghost use Rattle.castanhiu.specs.Numbers.{changedTold, receivedTold};
 use receiver::Changed;
 use receiver::Node;

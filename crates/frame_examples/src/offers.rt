@@ -1,6 +1,6 @@
 // One frame offered to a node: what the node says to it, and the message that it shows.
 ghost use mathlib.Core.Path.{_≡_};
-ghost use Rattle.receiver.specs.Steps.{receivedOf, bufferAfter};
+ghost use Rattle.receiver.specs.Receiving.{receivedOf, bufferAfter};
 use lines::bytes;
 use lines::newline;
 use lines::say;

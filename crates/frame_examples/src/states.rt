@@ -2,7 +2,7 @@
 ghost use mathlib.Core.Path.{_≡_};
 ghost use mathlib.Core.List.{[], _∷_};
 ghost use Rattle.receiver.specs.Nodes.{startOf};
-ghost use Rattle.receiver.specs.Steps.{bufferAfter};
+ghost use Rattle.receiver.specs.Receiving.{bufferAfter};
 use crate::offers::offer;
 use crate::offers::presence;
 use lines::newline;

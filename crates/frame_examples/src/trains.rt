@@ -2,7 +2,7 @@
 ghost use mathlib.Core.Path.{_≡_};
 ghost use mathlib.Core.Bool.{true};
 ghost use Rattle.receiver.specs.Shown.{shownOf};
-ghost use Rattle.receiver.specs.Steps.{receivedOf, bufferAfter};
+ghost use Rattle.receiver.specs.Receiving.{receivedOf, bufferAfter};
 use crate::offers::offer;
 use lines::bytes;
 use lines::front;

@@ -15,12 +15,13 @@ use Rattle.receiver.specs.declared.reception.Reception.{Reception}
 use Rattle.receiver.specs.declared.node.Node.{Node}
 use Rattle.receiver.specs.declared.frame.Judged.{Judged}
 use Rattle.receiver.specs.declared.frame.Judged.the-variants as judged
-use Rattle.receiver.specs.declared.step.Received.{Received}
-use Rattle.receiver.specs.declared.step.Outcome.{Outcome}
-use Rattle.receiver.specs.declared.step.Outcome.the-variants.{Refused, OverLong, Opened, Single}
+use Rattle.receiver.specs.declared.receiving.Received.{Received}
+use Rattle.receiver.specs.declared.outcome.Outcome.{Outcome}
+use Rattle.receiver.specs.declared.outcome.Outcome.the-variants.{Refused, OverLong, Opened, Single}
 use Rattle.receiver.specs.Nodes.{receptionAt}
 use Rattle.receiver.specs.Frames.{judgedOf}
-use Rattle.receiver.specs.Steps.{kept, shut, opened, stepOf, judgedPlace, receivedOf}
+use Rattle.receiver.specs.Steps.{leaving, closing, opened, stepOf}
+use Rattle.receiver.specs.Receiving.{judgedPlace, receivedOf}
 use Rattle.receiver.specs.Names.{Refuses, by-itself, by-reception}
 use Rattle.receiver.proofs.LawsFrames.{fair, refused-number}
 use Rattle.receiver.proofs.LawsKinds.{consecutive-is}
@@ -35,13 +36,13 @@ module _ (own : Position) (n : Node) (identifier : ℕ) (bytes : List ℕ) (stam
   outcomeBy j = stepOf (receptionAt n (judgedPlace j)) j (length bytes) stamp .outcome
 
   -- ---- what the step of a judged frame refuses: 2 to 10 and 12 to 14, each where it is due
-  not-single : (r : Reception) (p : Position) (functional : Bool) (L : ℕ) (why : Refusal) → pick functional (kept r (Single p functional L)) (shut (Single p functional L)) .outcome ≡ Refused why → ⊥
-  unfolding pick shut kept
+  not-single : (r : Reception) (p : Position) (functional : Bool) (L : ℕ) (why : Refusal) → pick functional (leaving r (Single p functional L)) (closing (Single p functional L)) .outcome ≡ Refused why → ⊥
+  unfolding pick closing leaving
   not-single r p true L why = λ (e : Single p true L ≡ Refused why). let z : _≡_ {A = ℕ} 0 1 = cc in omega arith
   not-single r p false L why = λ (e : Single p false L ≡ Refused why). let z : _≡_ {A = ℕ} 0 1 = cc in omega arith
 
   which : (why : Refusal) (j : Judged) → frame ≡ j → outcomeBy j ≡ Refused why → Refuses own n identifier bytes stamp why
-  unfolding stepOf opened shut kept
+  unfolding stepOf opened closing leaving
   which why (judged.Refused other) f =
       λ (e : Refused other ≡ Refused why).
       let same : other ≡ why = cc in
@@ -54,7 +55,7 @@ module _ (own : Position) (n : Node) (identifier : ℕ) (bytes : List ℕ) (stam
       by-reception (x .0) (x .1) (followed-exactly _ p number (length bytes) stamp why .0 e)
 
   so-refused : (why : Refusal) → Refuses own n identifier bytes stamp why → outcomeBy frame ≡ Refused why
-  unfolding stepOf kept
+  unfolding stepOf leaving
   so-refused why (by-itself x) = ap outcomeBy (refused-exactly own (n .unit) identifier bytes why .1 x)
   so-refused why (by-reception {p} {number} a c x) =
       ap outcomeBy (consecutive-is own (n .unit) identifier bytes p number .1 (a, c)) ∙ followed-exactly _ p number (length bytes) stamp why .1 x

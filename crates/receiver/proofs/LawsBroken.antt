@@ -19,10 +19,12 @@ use Rattle.readings.specs.declared.position.Vehicle.the-variants.{At, NoVehicle
 use Rattle.readings.proofs.LawsPositions.{trailer-none}
 use Rattle.receiver.specs.declared.reception.Reception.{Reception}
 use Rattle.receiver.specs.declared.node.Node.{Node}
-use Rattle.receiver.specs.declared.step.Outcome.the-variants.{Refused}
+use Rattle.receiver.specs.declared.outcome.Outcome.{Outcome}
+use Rattle.receiver.specs.declared.outcome.Outcome.the-variants.{Refused}
 use Rattle.receiver.specs.Receptions.{soundReception}
+use Rattle.receiver.specs.Steps.{leaving, stepOf}
+use Rattle.receiver.specs.Receiving.{stepBy, ownOf, judgedAt, judgedBy, movedBy, movedOf, storedIn, receivedOf}
 use Rattle.receiver.specs.Nodes.{receptionAt, soundNode}
-use Rattle.receiver.specs.Steps.{stepBy, ownOf, receivedBy, receivedAt, receivedOf}
 use Rattle.receiver.specs.Names.{BrokenReception, closed-with-frames, closed-with-stamp, under-seven, none-left, Broken, not-a-trailer, past-the-last, broken-reception, other-room}
 use Rattle.receiver.proofs.EachRefusal.{step-refuses, refuses-number}
 
@@ -75,15 +77,22 @@ module _ (n : Node) (buffer : List ℕ) where
 
   -- ---- a frame that is judged is never refused with 1
   module _ (identifier : ℕ) (bytes : List ℕ) (stamp : ℕ) where
-    none-of : (v : Vehicle) → receivedAt n identifier bytes stamp v .outcome ≡ Refused (refusal 1) → v ≡ NoVehicle
-    unfolding receivedAt receivedBy stepBy
+    abbrev outcomeAt : Vehicle → Outcome
+    outcomeAt v = stepBy n (judgedAt n identifier bytes v) bytes stamp .outcome
+
+    none-of : (v : Vehicle) → outcomeAt v ≡ Refused (refusal 1) → v ≡ NoVehicle
+    unfolding judgedAt stepBy
     none-of NoVehicle e = refl
     none-of (At own) e = absurd (omega (arith, refuses-number own n identifier bytes stamp (step-refuses own n identifier bytes stamp (refusal 1) .0 e)))
 
+    by-1 : outcomeAt NoVehicle ≡ Refused (refusal 1)
+    unfolding judgedAt stepBy stepOf leaving
+    by-1 = refl
+
     -- of every node, buffer and frame
     pub refused-1 : receivedOf n buffer identifier bytes stamp .outcome ≡ Refused (refusal 1) ↔ Broken n buffer
-    unfolding receivedOf receivedAt ownOf soundNode
+    unfolding receivedOf storedIn movedOf movedBy judgedBy ownOf soundNode
     refused-1 = (
       λ e. which-fails _ _ _ _ refl refl refl refl (none-of (ownOf n (length buffer)) e),
-      λ (b : Broken n buffer). ap (λ (v : Vehicle). receivedAt n identifier bytes stamp v .outcome) (no-own b),
+      λ (b : Broken n buffer). ap outcomeAt (no-own b) ∙ by-1,
     )

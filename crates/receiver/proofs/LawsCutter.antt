@@ -18,8 +18,8 @@ use Rattle.readings.specs.declared.position.Vehicle.the-variants.{At, NoVehicle
 use Rattle.readings.proofs.LawsPositions.{position-past, position-none}
 use Rattle.receiver.specs.declared.node.Answer.the-variants.{Done, Refused}
 use Rattle.receiver.specs.declared.cutter.FrameCut.{FrameCut}
-use Rattle.receiver.specs.declared.step.Control.{Control}
-use Rattle.receiver.specs.Cuts.{framesOf, noFrame, cutTold, pieceOf, between, cutOf, controlOf, Uncut, empty, too-long, past-last, no-sender, no-receiver, same-position}
+use Rattle.receiver.specs.declared.outcome.Control.{Control}
+use Rattle.receiver.specs.Cuts.{frameCount, noFrame, cutTold, pieceOf, between, cutOf, flowControlOf, Uncut, empty, too-long, past-last, no-sender, no-receiver, same-position}
 use Rattle.receiver.proofs.LawsPieces.{frames-none, none-else, between-first, between-second}
 use Rattle.receiver.proofs.LawsOnWire.{headed-done}
 
@@ -41,8 +41,8 @@ piece-done sender receiver unit message k =
 
 -- flow control: "positions over 5 or equal"
 module _ (control : Control) (from to unit : ℕ) where
-  pub control-16 : (5 < from) ⊎ ((5 < to) ⊎ (from ≡ to)) → controlOf control from to unit ≡ noFrame
-  unfolding controlOf
+  pub control-16 : (5 < from) ⊎ ((5 < to) ⊎ (from ≡ to)) → flowControlOf control from to unit ≡ noFrame
+  unfolding flowControlOf
   control-16 (inl h) = none-else _ _ (between-first _ _ _ (position-past from h))
   control-16 (inr (inl h)) = none-else _ _ (between-second _ _ _ (position-past to h))
   control-16 (inr (inr e)) = pick-true _ _ (eq-eqb _ _ e)
@@ -54,11 +54,11 @@ module _ (message : List ℕ) (k from to unit : ℕ) where
   cut-16 (past-last h) = pick-true _ _ (sym (right-holds _ (le-leb _ _ h)))
   cut-16 (empty e) =
       let n = frames-none (length message) (sym (left-holds _ (eq-eqb _ _ e))) in
-      let l : framesOf (length message) ≤ k = omega arith in
+      let l : frameCount (length message) ≤ k = omega arith in
       pick-true _ _ (sym (right-holds _ (le-leb _ _ l)))
   cut-16 (too-long h) =
       let n = frames-none (length message) (sym (right-holds _ (lt-ltb _ _ h))) in
-      let l : framesOf (length message) ≤ k = omega arith in
+      let l : frameCount (length message) ≤ k = omega arith in
       pick-true _ _ (sym (right-holds _ (le-leb _ _ l)))
   cut-16 (no-sender h) = none-else _ _ (between-first _ _ _ (position-past from h))
   cut-16 (no-receiver h) = none-else _ _ (between-second _ _ _ (position-past to h))
@@ -70,7 +70,7 @@ module _ (message : List ℕ) (k from to unit : ℕ) where
   between-refused (At s) NoVehicle a b e = no-receiver (position-none to b)
   between-refused (At s) (At r) a b e = let d = piece-done s r unit message k in let z : _≡_ {A = ℕ} 0 1 = cc in absurd (omega arith)
 
-  refused-uncut : (same past : Bool) → eqb from to ≡ same → leb (framesOf (length message)) k ≡ past
+  refused-uncut : (same past : Bool) → eqb from to ≡ same → leb (frameCount (length message)) k ≡ past
       → pick (either same past) noFrame (between (positionAt from) (positionAt to) (λ s r. pieceOf s r unit message k)) .answer ≡ Refused (refusal 16) → Uncut message k from to
   unfolding pick either
   refused-uncut true past a b e = same-position (eqb-true _ _ a)

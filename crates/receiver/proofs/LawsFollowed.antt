@@ -13,9 +13,9 @@ use Rattle.identifiers.proofs.LawsChoice.{pick-true, pick-false}
 use Rattle.readings.specs.declared.position.Position.{Position}
 use Rattle.receiver.specs.declared.reception.Reception.{Reception}
 use Rattle.receiver.specs.declared.frame.Judged.the-variants.{Consecutive}
-use Rattle.receiver.specs.declared.step.Outcome.the-variants.{Refused, Taken, Train}
-use Rattle.receiver.specs.Receptions.{closed, openWith}
-use Rattle.receiver.specs.Steps.{gapOf, regionAt, kept, shut, doneOf, leftOf, takenStep, followed, stepOf}
+use Rattle.receiver.specs.declared.outcome.Outcome.the-variants.{Refused, Taken, Train}
+use Rattle.receiver.specs.Receptions.{closed, openWith, regionAt}
+use Rattle.receiver.specs.Steps.{gapOf, leaving, closing, doneOf, leftOf, takenStep, followed, stepOf}
 
 -- of any reception
 pub consecutive-step : (r : Reception) (from : Position) (number count stamp : ℕ) → stepOf r (Consecutive from number) count stamp ≡ followed r from number count stamp
@@ -23,7 +23,7 @@ unfolding stepOf
 consecutive-step r from number count stamp = refl
 
 -- 12 "consecutive, nothing open"
-pub nothing-open : (from : Position) (number count stamp : ℕ) → followed closed from number count stamp ≡ kept closed (Refused (refusal 12))
+pub nothing-open : (from : Position) (number count stamp : ℕ) → followed closed from number count stamp ≡ leaving closed (Refused (refusal 12))
 unfolding followed pick
 nothing-open from number count stamp = refl
 
@@ -31,12 +31,12 @@ module _ (L k t : ℕ) (from : Position) (number count stamp : ℕ) (is-open : L
   abbrev m : ℕ
   m = min 6 (L - (5 + 6 * k))
 
-  pub followed-short : count < 2 + m → followed (openWith L k t) from number count stamp ≡ kept (openWith L k t) (Refused (refusal 9))
+  pub followed-short : count < 2 + m → followed (openWith L k t) from number count stamp ≡ leaving (openWith L k t) (Refused (refusal 9))
   unfolding followed leftOf doneOf
   followed-short h = pick-false _ _ (ne-eqb _ _ is-open) ∙ pick-true _ _ (lt-ltb _ _ h)
 
   module _ (enough : 2 + m ≤ count) where
-    pub followed-wrong : number ≢ suc k % 16 → followed (openWith L k t) from number count stamp ≡ shut (Refused (refusal 13))
+    pub followed-wrong : number ≢ suc k % 16 → followed (openWith L k t) from number count stamp ≡ closing (Refused (refusal 13))
     unfolding followed leftOf doneOf
     followed-wrong h =
         let n : number ≢ (k + 1) % 16 = rw (add-one k) h in
@@ -46,12 +46,12 @@ module _ (L k t : ℕ) (from : Position) (number count stamp : ℕ) (is-open : L
       at-number : eqb number ((k + 1) % 16) ≡ true
       at-number = rw (add-one k) (eq-eqb _ _ in-order)
 
-      pub followed-late : 150 < gapOf stamp t → followed (openWith L k t) from number count stamp ≡ shut (Refused (refusal 14))
+      pub followed-late : 150 < gapOf stamp t → followed (openWith L k t) from number count stamp ≡ closing (Refused (refusal 14))
       unfolding followed leftOf doneOf
       followed-late h = pick-false _ _ (ne-eqb _ _ is-open) ∙ pick-false _ _ (le-ltb _ _ enough) ∙ pick-true _ _ at-number ∙ pick-true _ _ (lt-ltb _ _ h)
 
       module _ (in-time : gapOf stamp t ≤ 150) where
-        followed-taken : followed (openWith L k t) from number count stamp ≡ takenStep (openWith L k t) from stamp
+        pub followed-taken : followed (openWith L k t) from number count stamp ≡ takenStep (openWith L k t) from stamp
         unfolding followed leftOf doneOf
         followed-taken = pick-false _ _ (ne-eqb _ _ is-open) ∙ pick-false _ _ (le-ltb _ _ enough) ∙ pick-true _ _ at-number ∙ pick-false _ _ (le-ltb _ _ in-time)
 

@@ -10,13 +10,12 @@ use Rattle.identifiers.specs.declared.refusal.Refusal.{Refusal}
 use Rattle.readings.specs.declared.position.Position.{Position}
 use Rattle.receiver.specs.declared.reception.Reception.{Reception}
 use Rattle.receiver.specs.declared.frame.Judged.the-variants as judged
-use Rattle.receiver.specs.declared.step.Step.{Step}
-use Rattle.receiver.specs.declared.step.Outcome.{Outcome}
-use Rattle.receiver.specs.declared.step.Outcome.the-variants.{Refused, OverLong, Opened, Single, Train}
-use Rattle.receiver.specs.Receptions.{closed, openWith}
-use Rattle.receiver.specs.Steps.{regionAt, kept, shut, opened, stepOf, writtenBy}
+use Rattle.receiver.specs.declared.outcome.Outcome.{Outcome}
+use Rattle.receiver.specs.declared.outcome.Outcome.the-variants.{Refused, OverLong, Opened, Single, Train}
+use Rattle.receiver.specs.Receptions.{closed, openWith, regionAt}
+use Rattle.receiver.specs.Steps.{Step, leaving, closing, opened, stepOf, writtenBy}
 use Rattle.receiver.specs.Shown.{shownOf}
-use Rattle.receiver.proofs.LawsSteps.{kept-writes}
+use Rattle.receiver.proofs.LawsSteps.{leaving-writes}
 
 -- of a step by a frame with these data bytes, with this buffer
 pub record Gives (buffer bytes : List ℕ) (s : Step) (r : Reception) (o : Outcome) (after : List ℕ) : Type 0 where
@@ -26,13 +25,13 @@ pub record Gives (buffer bytes : List ℕ) (s : Step) (r : Reception) (o : Outco
 
 module _ (buffer bytes : List ℕ) where
   -- nothing changes; the reception is closed; bytes of the frame are written
-  pub kept-gives : (r : Reception) (o : Outcome) → Gives buffer bytes (kept r o) r o buffer
-  unfolding kept
-  kept-gives r o = record { reception = refl; outcome = refl; leaves = kept-writes buffer r o bytes }
+  pub leaving-gives : (r : Reception) (o : Outcome) → Gives buffer bytes (leaving r o) r o buffer
+  unfolding leaving
+  leaving-gives r o = record { reception = refl; outcome = refl; leaves = leaving-writes buffer r o bytes }
 
-  pub shut-gives : (o : Outcome) → Gives buffer bytes (shut o) closed o buffer
-  unfolding shut
-  shut-gives o = kept-gives closed o
+  pub closing-gives : (o : Outcome) → Gives buffer bytes (closing o) closed o buffer
+  unfolding closing
+  closing-gives o = leaving-gives closed o
 
   pub stores-gives : (r : Reception) (at start count : ℕ) (o : Outcome)
       → Gives buffer bytes (record { reception = r; at = at; start = start; count = count; outcome = o }) r o (written buffer at (take count (drop start bytes)))
@@ -43,22 +42,22 @@ module _ (buffer bytes : List ℕ) where
     -- "A refusal .. leaves state and buffers as found"
     pub refused-gives : (why : Refusal) → Gives buffer bytes (stepOf r (judged.Refused why) count stamp) r (Refused why) buffer
     unfolding stepOf
-    refused-gives why = kept-gives r (Refused why)
+    refused-gives why = leaving-gives r (Refused why)
 
     module _ (from : Position) where
       -- "Functional frames are single only and touch no reception"
       pub functional-gives : (L : ℕ) → Gives buffer bytes (stepOf r (judged.Single from true L) count stamp) r (Single from true L) buffer
       unfolding stepOf pick
-      functional-gives L = kept-gives r (Single from true L)
+      functional-gives L = leaving-gives r (Single from true L)
 
       -- "A physical single frame, .. an over-long one .. ends the open reception"
       pub physical-gives : (L : ℕ) → Gives buffer bytes (stepOf r (judged.Single from false L) count stamp) closed (Single from false L) buffer
       unfolding stepOf pick
-      physical-gives L = shut-gives (Single from false L)
+      physical-gives L = closing-gives (Single from false L)
 
       pub over-long-gives : Gives buffer bytes (stepOf r (judged.OverLong from) count stamp) closed (OverLong from) buffer
       unfolding stepOf
-      over-long-gives = shut-gives (OverLong from)
+      over-long-gives = closing-gives (OverLong from)
 
       -- "A first frame opens it anew", and its five message bytes begin the vehicle's part of the buffer
       pub first-gives : (L : ℕ)

@@ -1,72 +1,39 @@
 -- Each kind of frame by its identifier and its bytes, both ways: what checks 2 to 10 let through is just what document 01 describes.
-use mathlib.Core.Path.{_≡_, refl, sym, ap, _∙_}
-use mathlib.Core.Bool.{Bool, true, false}
+use mathlib.Core.Path.{_≡_, refl, ap, _∙_}
+use mathlib.Core.Bool.{Bool, false}
 use mathlib.Core.List.{List}
 use mathlib.Core.Logic.{_≢_, _↔_}
 use Prim.Native.Nat.{ℕ, suc, _+_, _*_, _/_, _%_, _≤_}
 use native.Mathlib.Omega.{arith}
-use borrow.Author.Tests.{lt-ltb, le-ltb, le-leb, eq-eqb, ne-eqb}
+use borrow.Author.Tests.{lt-ltb, le-ltb, eq-eqb, ne-eqb}
 use lib.Dec.{eqb}
 use lib.ListN.{length, getD}
-use Rattle.identifiers.specs.Choice.{pick, both, either}
+use Rattle.identifiers.specs.Choice.{pick}
 use Rattle.identifiers.specs.Refusals.{refusal}
-use Rattle.identifiers.specs.Identifiers.{fieldsOf}
-use Rattle.identifiers.proofs.LawsChoice.{pick-true, pick-false, so}
-use Rattle.identifiers.proofs.LawsIdentifiers.{frame-fields}
-use Rattle.readings.specs.Positions.{vehicleOf}
+use Rattle.identifiers.proofs.LawsChoice.{pick-true, pick-false}
 use Rattle.readings.specs.declared.position.Position.{Position}
-use Rattle.readings.proofs.LawsPositions.{address-back}
 use Rattle.receiver.specs.declared.frame.Judged.the-variants.{Refused, Single, First, OverLong, Consecutive}
-use Rattle.receiver.specs.Frames.{singleOf, firstLength, firstOf, kindOf, unitIs, diagnostic, destinationOf, addressedFrom, addressedOf, judgedRead, judgedOf}
+use Rattle.receiver.specs.Frames.{singleOf, firstLength, firstOf, carriedOf, judgedFrom, judgedOf}
 use Rattle.receiver.specs.Wire.{Addressed, IsSingle, IsFirst, IsOverLong, IsConsecutive}
-use Rattle.receiver.specs.Names.{Readable, Diagnostic, FromOther, destinedTo}
+use Rattle.receiver.proofs.LawsAddressings.{addressing-is}
 use Rattle.receiver.proofs.LawsFrames.{fair}
 
 module _ (own : Position) (unit n : ℕ) (bytes : List ℕ) where
-  -- ---- and the other way round
-  is-205 : (f : Bool) → fieldsOf n .format ≡ pick f 205 206 → eqb (fieldsOf n .format) 205 ≡ f
-  unfolding pick
-  is-205 true e = eq-eqb _ _ e
-  is-205 false e = rw e
-
-  is-diagnostic : (f : Bool) → fieldsOf n .«data_page» ≡ 0 → fieldsOf n .format ≡ pick f 205 206 → diagnostic (fieldsOf n) ≡ true
-  unfolding diagnostic both either pick
-  is-diagnostic true z e = rw (z, e)
-  is-diagnostic false z e = rw (z, e)
-
-  pub judged-read : Readable n bytes → judgedOf own unit n bytes ≡ addressedOf own unit (fieldsOf n) bytes
-  unfolding judgedOf judgedRead
-  judged-read r = ap (judgedRead own unit bytes) (frame-fields n (length bytes) (r .range) (r .count) (r .reserved))
-
-  pub judged-from : {functional : Bool} → Diagnostic n bytes functional → judgedOf own unit n bytes ≡ addressedFrom own unit (fieldsOf n) bytes (vehicleOf (fieldsOf n .source))
-  unfolding addressedOf
-  judged-from {functional} d = judged-read (d .readable) ∙ pick-true _ _ (is-diagnostic functional (d .page) (d .format))
-
-  pub judged-other : {p : Position} {functional : Bool} → FromOther own n bytes p functional
-      → judgedOf own unit n bytes ≡ pick (eqb (fieldsOf n .specific) (destinedTo own functional)) (pick (unitIs unit bytes) (kindOf p functional bytes) (Refused (refusal 8))) (Refused (refusal 7))
-  unfolding addressedFrom destinationOf
-  judged-other {p} {functional} x =
-      judged-from (x .diagnostic)
-      ∙ ap (addressedFrom own unit (fieldsOf n) bytes) (ap vehicleOf (x .source) ∙ address-back p)
-      ∙ rw (is-205 functional (x .diagnostic .format)) (pick-false _ _ (ne-eqb _ _ (x .other)))
-
-  pub judged-kind : (p : Position) (functional : Bool) → Addressed own unit n bytes p functional → judgedOf own unit n bytes ≡ kindOf p functional bytes
-  unfolding unitIs
-  judged-kind p functional a =
-      judged-other (record { diagnostic = record { readable = record { range = a .range; count = a .count; reserved = a .reserved }; page = a .page; format = a .format }; source = a .source; other = a .other })
-      ∙ pick-true _ _ (eq-eqb _ _ (a .specific))
-      ∙ pick-true _ _ (sym (so (le-leb _ _ (a .own-unit .0)) (sym (eq-eqb _ _ (a .own-unit .1)))))
+  -- a frame that is addressed is judged by what it carries
+  pub judged-carried : (p : Position) (functional : Bool) → Addressed own unit n bytes p functional → judgedOf own unit n bytes ≡ carriedOf p functional bytes
+  unfolding judgedOf judgedFrom
+  judged-carried p functional a = ap (judgedFrom bytes) (addressing-is own unit n bytes p functional .1 a)
 
   -- ---- each kind, by its identifier and its bytes
   pub single-is : (p : Position) (functional : Bool) (L : ℕ) → judgedOf own unit n bytes ≡ Single p functional L ↔ (Addressed own unit n bytes p functional × IsSingle bytes L)
-  unfolding kindOf singleOf
+  unfolding carriedOf singleOf
   single-is p functional L = (
     fair own unit n bytes _,
     λ (x : Addressed own unit n bytes p functional × IsSingle bytes L).
         let k = x .1 in
         let some : L ≢ 0 = λ (e : L ≡ 0). omega (arith, k .least) in
         let r = k .room in
-        judged-kind p functional (x .0)
+        judged-carried p functional (x .0)
         ∙ pick-false _ _ (le-ltb (length bytes) 2 (omega arith))
         ∙ pick-true _ _ (eq-eqb _ _ (k .high))
         ∙ ap (λ (i : ℕ). singleOf p functional i (length bytes)) (k .low)
@@ -78,10 +45,10 @@ module _ (own : Position) (unit n : ℕ) (bytes : List ℕ) where
   -- a physical frame whose high half is not 0
   not-single : (p : Position) (high : ℕ) → Addressed own unit n bytes p false → 2 ≤ length bytes → getD bytes 1 0 / 16 ≡ suc high
       → judgedOf own unit n bytes ≡ pick (eqb (suc high) 1) (firstOf p bytes) (pick (eqb (suc high) 2) (Consecutive p (getD bytes 1 0 % 16)) (pick (eqb (suc high) 3) (Refused (refusal 10)) (Refused (refusal 9))))
-  unfolding kindOf
+  unfolding carriedOf
   not-single p high a r e =
       let z : suc high ≢ 0 = λ (d : suc high ≡ 0). omega arith in
-      judged-kind p false a ∙ pick-false _ _ (le-ltb (length bytes) 2 r) ∙ rw e (pick-false _ _ (ne-eqb (suc high) 0 z) ∙ pick-false _ _ refl)
+      judged-carried p false a ∙ pick-false _ _ (le-ltb (length bytes) 2 r) ∙ rw e (pick-false _ _ (ne-eqb (suc high) 0 z) ∙ pick-false _ _ refl)
 
   pub first-is : (p : Position) (L : ℕ) → judgedOf own unit n bytes ≡ First p L ↔ (Addressed own unit n bytes p false × IsFirst bytes L)
   unfolding firstOf firstLength

@@ -22,11 +22,11 @@ use Rattle.readings.specs.declared.position.Position.{Position}
 use Rattle.readings.proofs.LawsPositions.{place-back, address-byte}
 use Rattle.receiver.specs.declared.node.Answer.the-variants.{Done}
 use Rattle.receiver.specs.declared.cutter.FrameCut.{FrameCut}
-use Rattle.receiver.specs.declared.step.Control.{Control}
-use Rattle.receiver.specs.declared.step.Control.the-variants.{Continue, Overflow}
+use Rattle.receiver.specs.declared.outcome.Control.{Control}
+use Rattle.receiver.specs.declared.outcome.Control.the-variants.{Continue, Overflow}
 use Rattle.receiver.specs.Frames.{Frame}
 use Rattle.receiver.specs.Wire.{Addressed}
-use Rattle.receiver.specs.Cuts.{framesOf, physicalTo, framedAs, framed, headed, pieceOf, cutOf, controlByte, controlOf, onWire}
+use Rattle.receiver.specs.Cuts.{frameCount, physicalTo, framedAs, framed, headed, pieceOf, cutOf, controlByte, flowControlOf, onWire}
 use Rattle.receiver.proofs.LawsPieces.{frames-one, frames-many, between-both}
 
 -- ---- a frame from one position to another
@@ -68,11 +68,11 @@ module _ (sender receiver : Position) (unit : ℕ) (m : List ℕ) (other : place
   abbrev wire : List ℕ → ℕ → Frame
   wire rest stamp = record { identifier = identifierTo sender receiver; bytes = unit ∷ rest; stamp = stamp }
 
-  cut-is : (k : ℕ) → k < framesOf (length m) → cutOf m k (placeOf sender) (placeOf receiver) unit ≡ pieceOf sender receiver unit m k
+  cut-is : (k : ℕ) → k < frameCount (length m) → cutOf m k (placeOf sender) (placeOf receiver) unit ≡ pieceOf sender receiver unit m k
   unfolding cutOf
   cut-is k h = pick-false _ _ (sym (right-decides (ne-eqb _ _ other) (sym (lt-leb _ _ h)))) ∙ between-both _ _ _ sender receiver (place-back sender) (place-back receiver)
 
-  piece-wire : (k stamp : ℕ) (head bytes : List ℕ) → k < framesOf (length m) → pieceOf sender receiver unit m k ≡ headed sender receiver (unit ∷ head) bytes → length (unit ∷ head ++ bytes) ≤ 8
+  piece-wire : (k stamp : ℕ) (head bytes : List ℕ) → k < frameCount (length m) → pieceOf sender receiver unit m k ≡ headed sender receiver (unit ∷ head) bytes → length (unit ∷ head ++ bytes) ≤ 8
       → cutWire k stamp ≡ wire (head ++ bytes) stamp
   piece-wire k stamp head bytes h e l = ap (λ (c : FrameCut). onWire c stamp) (cut-is k h ∙ e) ∙ headed-wire sender receiver (unit ∷ head) bytes stamp l
 
@@ -91,7 +91,7 @@ module _ (sender receiver : Position) (unit : ℕ) (m : List ℕ) (other : place
         piece-wire 0 stamp (0x10 ∷ length m ∷ []) (take 5 m) (omega arith) (pick-false _ _ (lt-leb _ _ long) ∙ pick-true _ _ refl) (omega arith)
 
     -- "and consecutive frames 1 to ceiling((L-5)/6)"
-    pub consecutive-wire : (k stamp : ℕ) → suc k < framesOf (length m) → cutWire (suc k) stamp ≡ wire ((0x20 + suc k % 16) ∷ take 6 (drop (5 + 6 * k) m)) stamp
+    pub consecutive-wire : (k stamp : ℕ) → suc k < frameCount (length m) → cutWire (suc k) stamp ≡ wire ((0x20 + suc k % 16) ∷ take 6 (drop (5 + 6 * k) m)) stamp
     unfolding pieceOf
     consecutive-wire k stamp h =
         let l : length (take 6 (drop (5 + 6 * k) m)) ≤ 6 = simp length-take (omega arith) in
@@ -104,17 +104,17 @@ module _ (sender receiver : Position) (unit : ℕ) (m : List ℕ) (other : place
 
 -- ---- flow control: "continue control (`30 00 00`)", "overflow control (`32 00 00` after the unit)"
 module _ (sender receiver : Position) (unit stamp : ℕ) (other : placeOf sender ≢ placeOf receiver) where
-  control-is : (control : Control) → onWire (controlOf control (placeOf sender) (placeOf receiver) unit) stamp ≡ record { identifier = identifierTo sender receiver; bytes = unit ∷ controlByte control ∷ 0 ∷ 0 ∷ []; stamp = stamp }
-  unfolding controlOf
+  control-is : (control : Control) → onWire (flowControlOf control (placeOf sender) (placeOf receiver) unit) stamp ≡ record { identifier = identifierTo sender receiver; bytes = unit ∷ controlByte control ∷ 0 ∷ 0 ∷ []; stamp = stamp }
+  unfolding flowControlOf
   control-is control =
       ap (λ (c : FrameCut). onWire c stamp) (pick-false _ _ (ne-eqb _ _ other) ∙ between-both _ _ _ sender receiver (place-back sender) (place-back receiver))
       ∙ headed-wire sender receiver (unit ∷ []) (controlByte control ∷ 0 ∷ 0 ∷ []) stamp (omega arith)
 
-  pub continue-wire : onWire (controlOf Continue (placeOf sender) (placeOf receiver) unit) stamp ≡ record { identifier = identifierTo sender receiver; bytes = unit ∷ 0x30 ∷ 0 ∷ 0 ∷ []; stamp = stamp }
+  pub continue-wire : onWire (flowControlOf Continue (placeOf sender) (placeOf receiver) unit) stamp ≡ record { identifier = identifierTo sender receiver; bytes = unit ∷ 0x30 ∷ 0 ∷ 0 ∷ []; stamp = stamp }
   unfolding controlByte
   continue-wire = control-is Continue
 
-  pub overflow-wire : onWire (controlOf Overflow (placeOf sender) (placeOf receiver) unit) stamp ≡ record { identifier = identifierTo sender receiver; bytes = unit ∷ 0x32 ∷ 0 ∷ 0 ∷ []; stamp = stamp }
+  pub overflow-wire : onWire (flowControlOf Overflow (placeOf sender) (placeOf receiver) unit) stamp ≡ record { identifier = identifierTo sender receiver; bytes = unit ∷ 0x32 ∷ 0 ∷ 0 ∷ []; stamp = stamp }
   unfolding controlByte
   overflow-wire = control-is Overflow
 

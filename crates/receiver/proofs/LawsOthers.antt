@@ -15,10 +15,10 @@ use Rattle.readings.specs.declared.position.Position.{Position}
 use Rattle.readings.proofs.LawsPositions.{places-differ}
 use Rattle.receiver.specs.declared.reception.Reception.{Reception}
 use Rattle.receiver.specs.declared.node.Node.{Node}
-use Rattle.receiver.specs.declared.step.Step.{Step}
-use Rattle.receiver.specs.declared.step.Outcome.{Outcome}
+use Rattle.receiver.specs.declared.outcome.Outcome.{Outcome}
+use Rattle.receiver.specs.Receptions.{regionAt}
+use Rattle.receiver.specs.Steps.{Step, writtenBy}
 use Rattle.receiver.specs.Nodes.{receptionAt, withReception}
-use Rattle.receiver.specs.Steps.{regionAt, writtenBy}
 use Rattle.receiver.proofs.LawsNodes.{put-back, reception-other}
 use Rattle.receiver.proofs.LawsSteps.{Fitted}
 use Rattle.receiver.proofs.LawsGiven.{Gives}
@@ -42,8 +42,8 @@ pub record Unmoved (q : Position) (n : Node) (buffer bytes : List ℕ) (place : 
 
 module _ (q : Position) (n : Node) (buffer bytes : List ℕ) where
   -- by a step that keeps the reception and the buffer every vehicle does
-  pub unmoved-kept : (place : ℕ) {s : Step} {o : Outcome} → Gives buffer bytes s (receptionAt n place) o buffer → Unmoved q n buffer bytes place s
-  unmoved-kept place g = record {
+  pub unmoved-left : (place : ℕ) {s : Step} {o : Outcome} → Gives buffer bytes s (receptionAt n place) o buffer → Unmoved q n buffer bytes place s
+  unmoved-left place g = record {
     reception = ap (λ (r : Reception). receptionAt (withReception n place r) (placeOf q)) (g .reception) ∙ ap (λ (m : Node). receptionAt m (placeOf q)) (put-back n place);
     part = λ m l. ap (λ (b : List ℕ). take m (drop (regionAt q) b)) (g .leaves);
   }

@@ -16,28 +16,28 @@ use Rattle.readings.specs.declared.position.Position.{Position}
 use Rattle.readings.specs.declared.position.Vehicle.{Vehicle}
 use Rattle.readings.specs.declared.position.Vehicle.the-variants.{At, NoVehicle}
 use Rattle.receiver.specs.declared.cutter.FrameCut.{FrameCut}
-use Rattle.receiver.specs.Cuts.{framesOf, noFrame, framed, headed, between}
+use Rattle.receiver.specs.Cuts.{frameCount, noFrame, framed, headed, between}
 
 -- ---- how many frames
 -- none for 0 or over 255 bytes, one up to 6, else a first frame and ceiling((L-5)/6) more
-pub frames-none : (L : ℕ) → either (eqb L 0) (ltb 255 L) ≡ true → framesOf L ≡ 0
-unfolding framesOf
+pub frames-none : (L : ℕ) → either (eqb L 0) (ltb 255 L) ≡ true → frameCount L ≡ 0
+unfolding frameCount
 frames-none L h = pick-true _ _ h
 
 in-range : (L : ℕ) → 1 ≤ L → L ≤ 255 → either (eqb L 0) (ltb 255 L) ≡ false
 in-range L a b = sym (right-decides (ne-eqb L 0 (λ (e : L ≡ 0). omega arith)) (sym (le-ltb _ _ b)))
 
-pub frames-one : (L : ℕ) → 1 ≤ L → L ≤ 6 → framesOf L ≡ 1
-unfolding framesOf
+pub frames-one : (L : ℕ) → 1 ≤ L → L ≤ 6 → frameCount L ≡ 1
+unfolding frameCount
 frames-one L a b = pick-false _ _ (in-range L a (omega arith)) ∙ pick-true _ _ (le-leb _ _ b)
 
-pub frames-many : (L : ℕ) → 7 ≤ L → L ≤ 255 → framesOf L ≡ 1 + (L - 5 + 5) / 6
-unfolding framesOf
+pub frames-many : (L : ℕ) → 7 ≤ L → L ≤ 255 → frameCount L ≡ 1 + (L - 5 + 5) / 6
+unfolding frameCount
 frames-many L a b = pick-false _ _ (in-range L (omega arith) b) ∙ pick-false _ _ (lt-leb _ _ a)
 
 -- a message that has a frame has 1 to 255 bytes
-frames-some : (L k : ℕ) → k < framesOf L → (1 ≤ L) × (L ≤ 255) × (k < pick (leb L 6) 1 (1 + (L - 5 + 5) / 6))
-unfolding framesOf pick
+frames-some : (L k : ℕ) → k < frameCount L → (1 ≤ L) × (L ≤ 255) × (k < pick (leb L 6) 1 (1 + (L - 5 + 5) / 6))
+unfolding frameCount pick
 frames-some L k h = go (either (eqb L 0) (ltb 255 L)) refl h
   where
     go : (t : Bool) → either (eqb L 0) (ltb 255 L) ≡ t → k < pick t 0 (pick (leb L 6) 1 (1 + (L - 5 + 5) / 6)) → (1 ≤ L) × (L ≤ 255) × (k < pick (leb L 6) 1 (1 + (L - 5 + 5) / 6))
@@ -47,11 +47,11 @@ frames-some L k h = go (either (eqb L 0) (ltb 255 L)) refl h
         let some : L ≡ 0 → ⊥ = eqb-false _ _ (b .0) in
         (omega arith, ltb-false _ _ (b .1), l)
 
-pub frames-range : (L k : ℕ) → k < framesOf L → L ≤ 255
+pub frames-range : (L k : ℕ) → k < frameCount L → L ≤ 255
 frames-range L k h = frames-some L k h .1
 
 -- a consecutive frame starts before the message ends
-pub frames-start : (L k : ℕ) → k < framesOf L → 6 < L → (5 + 6 * (k - 1) < L) × (k ≤ 42)
+pub frames-start : (L k : ℕ) → k < frameCount L → 6 < L → (5 + 6 * (k - 1) < L) × (k ≤ 42)
 frames-start L k h l =
     let f = frames-some L k h in
     let e : k < 1 + (L - 5 + 5) / 6 = rw (pick-false {t = leb L 6} 1 (1 + (L - 5 + 5) / 6) (lt-leb L 6 l)) at (f .2) in

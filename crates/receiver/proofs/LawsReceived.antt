@@ -3,7 +3,6 @@ use mathlib.Core.Path.{_≡_, refl, sym, ap, _∙_}
 use mathlib.Core.Bool.{Bool, true, false, _&&_}
 use mathlib.Core.List.{List}
 use Prim.Native.Nat.{ℕ, _<_}
-use native.Mathlib.Omega.{arith}
 use borrow.Author.Tests.{eqb-true, eq-eqb}
 use lib.Dec.{eqb}
 use lib.ListN.{length, set}
@@ -13,20 +12,18 @@ use Rattle.identifiers.proofs.LawsChoice.{pick-true, pick-false, was-taken, so,
 use Rattle.readings.specs.Positions.{trailerAt}
 use Rattle.readings.proofs.LawsPositions.{not-none}
 use Rattle.readings.specs.declared.position.Position.{Position}
-use Rattle.readings.specs.declared.position.Vehicle.{Vehicle}
 use Rattle.readings.specs.declared.position.Vehicle.the-variants.{At, NoVehicle}
 use Rattle.receiver.specs.declared.node.Node.{Node}
 use Rattle.receiver.specs.declared.frame.Judged.{Judged}
-use Rattle.receiver.specs.declared.step.Step.{Step}
-use Rattle.receiver.specs.declared.step.Moved.{Moved}
-use Rattle.receiver.specs.declared.step.Received.{Received}
-use Rattle.receiver.specs.declared.step.Outcome.the-variants.{Refused}
-use Rattle.receiver.specs.Nodes.{receptionAt, withReception, soundNode, soundInFront, soundBehind}
+use Rattle.receiver.specs.declared.frame.Judged.the-variants as judged
+use Rattle.receiver.specs.declared.receiving.Moved.{Moved}
+use Rattle.receiver.specs.declared.outcome.Outcome.the-variants.{Refused}
 use Rattle.receiver.specs.Frames.{judgedOf}
-use Rattle.receiver.specs.Steps.{stepOf, judgedPlace, stepBy, ownOf, receivedBy, receivedAt, receivedOf, unmovedAs, movedBy, movedAt, movedOf, writtenBy, bufferAt, bufferAfter}
-use Rattle.receiver.proofs.LawsNodes.{put-back}
+use Rattle.receiver.specs.Steps.{Step, stepOf, writtenBy, leaving}
+use Rattle.receiver.specs.Receiving.{judgedPlace, stepBy, ownOf, judgedAt, judgedBy, movedBy, movedOf, storedIn, receivedOf, unmovedAs, bufferAfter}
+use Rattle.receiver.specs.Nodes.{receptionAt, withReception, soundNode, soundInFront, soundBehind}
 use Rattle.receiver.proofs.LawsRules.{halves}
-use Rattle.receiver.proofs.LawsSteps.{place-judged}
+use Rattle.receiver.proofs.LawsSteps.{place-judged, leaving-writes}
 
 -- ---- the step of a node that keeps its rules, held with a buffer of 1,536 bytes
 -- how it is tested: the two halves of the node's rules, and the buffer's length
@@ -68,46 +65,35 @@ module _ (n : Node) (buffer : List ℕ) (own : Position) (unit : ℕ) (s : sound
   abbrev step : Step
   step = stepOf (receptionAt n (judgedPlace frame)) frame (length bytes) stamp
 
+  judged-is : judgedBy n buffer identifier bytes ≡ frame
+  unfolding judgedBy judgedAt
+  judged-is = ap (judgedAt n identifier bytes) (own-is n _ s l ∙ at) ∙ ap (λ (i : ℕ). judgedOf own i identifier bytes) u
+
   pub received-is : receivedOf n buffer identifier bytes stamp ≡ record { node = withReception n (judgedPlace frame) (step .reception); outcome = step .outcome }
-  unfolding receivedOf receivedAt receivedBy stepBy
-  received-is =
-      ap (receivedAt n identifier bytes stamp) (own-is n _ s l ∙ at) ∙ ap (λ (i : ℕ). receivedBy n (judgedOf own i identifier bytes) bytes stamp) u
+  unfolding receivedOf storedIn movedOf movedBy stepBy
+  received-is = ap (λ (j : Judged). storedIn n (movedBy n j bytes stamp)) judged-is
 
   pub buffer-is : bufferAfter n buffer identifier bytes stamp ≡ writtenBy buffer step bytes
-  unfolding bufferAfter bufferAt stepBy
-  buffer-is =
-      ap (bufferAt n buffer identifier bytes stamp) (own-is n _ s l ∙ at) ∙ ap (λ (i : ℕ). writtenBy buffer (stepBy n (judgedOf own i identifier bytes) bytes stamp) bytes) u
+  unfolding bufferAfter stepBy
+  buffer-is = ap (λ (j : Judged). writtenBy buffer (stepBy n j bytes stamp) bytes) judged-is
+
+-- ---- refusal 1 leaves the node and the buffer as found
+module _ (n : Node) (bytes : List ℕ) (stamp : ℕ) where
+  pub unmoved-is : movedBy n (judged.Refused (refusal 1)) bytes stamp ≡ unmovedAs n
+  unfolding movedBy stepBy stepOf leaving
+  unmoved-is = refl
+
+  pub unmoved-buffer : (buffer : List ℕ) → writtenBy buffer (stepBy n (judged.Refused (refusal 1)) bytes stamp) bytes ≡ buffer
+  unfolding stepBy stepOf
+  unmoved-buffer buffer = leaving-writes buffer _ _ bytes
 
 -- ---- the node with the one reception stored that a frame moves is the node that is received
-module _ (n : Node) where
-  abbrev storedIn : Moved → Received
-  storedIn m = record { node = withReception n (m .place) (m .reception); outcome = m .outcome }
+module _ (n : Node) (identifier : ℕ) (bytes : List ℕ) (stamp : ℕ) (buffer : List ℕ) {m : Moved} (is : m ≡ movedOf n buffer identifier bytes stamp) where
+  -- field by field
+  pub stored-fields : record { node = record { own = n .own; unit = n .unit; receptions = set (n .receptions) (m .place) (m .reception) }; outcome = m .outcome } ≡ receivedOf n buffer identifier bytes stamp
+  unfolding receivedOf storedIn withReception
+  stored-fields = rw is
 
-  unmoved-stays : storedIn (unmovedAs n) ≡ record { node = n; outcome = Refused (refusal 1) }
-  unfolding unmovedAs
-  unmoved-stays = ap (λ (m : Node). record { node = m; outcome = Refused (refusal 1) }) (put-back n 0)
-
-  module _ (identifier : ℕ) (bytes : List ℕ) (stamp : ℕ) where
-    stored-at : (v : Vehicle) → storedIn (movedAt n identifier bytes stamp v) ≡ receivedAt n identifier bytes stamp v
-    unfolding movedAt movedBy receivedAt receivedBy
-    stored-at (At own) = refl
-    stored-at NoVehicle = unmoved-stays
-
-    place-at : (v : Vehicle) → movedAt n identifier bytes stamp v .place < 6
-    unfolding movedAt movedBy unmovedAs
-    place-at (At own) = place-judged (judgedOf own (n .unit) identifier bytes)
-    place-at NoVehicle = omega arith
-
-    module _ (buffer : List ℕ) {m : Moved} (is : m ≡ movedOf n buffer identifier bytes stamp) where
-      stored-moved : storedIn m ≡ receivedOf n buffer identifier bytes stamp
-      unfolding movedOf receivedOf
-      stored-moved = rw is (stored-at (ownOf n (length buffer)))
-
-      -- field by field
-      pub stored-fields : record { node = record { own = n .own; unit = n .unit; receptions = set (n .receptions) (m .place) (m .reception) }; outcome = m .outcome } ≡ receivedOf n buffer identifier bytes stamp
-      unfolding withReception
-      stored-fields = stored-moved
-
-      pub place-moved : m .place < 6
-      unfolding movedOf
-      place-moved = rw is (place-at (ownOf n (length buffer)))
+  pub place-moved : m .place < 6
+  unfolding movedOf movedBy
+  place-moved = rw is (place-judged (judgedBy n buffer identifier bytes))

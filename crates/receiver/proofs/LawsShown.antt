@@ -19,13 +19,14 @@ use Rattle.receiver.specs.declared.reception.Reception.{Reception}
 use Rattle.receiver.specs.declared.node.Node.{Node}
 use Rattle.receiver.specs.declared.frame.Judged.{Judged}
 use Rattle.receiver.specs.declared.frame.Judged.the-variants as judged
-use Rattle.receiver.specs.declared.step.Step.{Step}
-use Rattle.receiver.specs.declared.step.Outcome.{Outcome}
-use Rattle.receiver.specs.declared.step.Outcome.the-variants.{Refused, OverLong, Opened, Taken, Single, Train}
-use Rattle.receiver.specs.Receptions.{closed}
-use Rattle.receiver.specs.Nodes.{receptionAt}
+use Rattle.receiver.specs.declared.outcome.Outcome.{Outcome}
+use Rattle.receiver.specs.declared.outcome.Outcome.the-variants.{Refused, OverLong, Opened, Taken, Single, Train}
+use Rattle.receiver.specs.Receptions.{closed, bufferLength, regionAt}
 use Rattle.receiver.specs.Frames.{judgedOf}
-use Rattle.receiver.specs.Steps.{regionAt, kept, shut, opened, leftOf, takenStep, followed, stepOf, judgedPlace, stepBy, ownOf, receivedBy, receivedAt, receivedOf, bufferAt, bufferAfter, dueOf, dueNumber, nothingTold, outcomeTold}
+use Rattle.receiver.specs.Outcomes.{dueOf, dueNumber, nothingTold, outcomeTold}
+use Rattle.receiver.specs.Steps.{Step, leaving, closing, opened, leftOf, takenStep, followed, stepOf, writtenBy}
+use Rattle.receiver.specs.Receiving.{judgedPlace, stepBy, ownOf, judgedAt, judgedBy, movedBy, movedOf, storedIn, receivedOf, bufferAfter}
+use Rattle.receiver.specs.Nodes.{receptionAt}
 use Rattle.receiver.specs.Shown.{shownOf, toldMessage}
 use Rattle.receiver.proofs.LawsFrames.{Fair, fair}
 use Rattle.receiver.proofs.LawsSteps.{length-after}
@@ -56,8 +57,8 @@ abbrev Shows : List ℕ → List ℕ → Step → Type 0
 Shows bytes buffer s = length (shownOf bytes buffer (s .outcome)) ≡ outcomeTold (s .outcome) .length
 
 module _ (bytes buffer : List ℕ) (room : length buffer ≡ 1536) (r : Reception) (short : r .length ≤ 255) (stamp : ℕ) where
-  shows-refused : (x : Reception) (why : Refusal) → Holds (Shows bytes buffer) (kept x (Refused why))
-  unfolding kept shownOf outcomeTold nothingTold
+  shows-refused : (x : Reception) (why : Refusal) → Holds (Shows bytes buffer) (leaving x (Refused why))
+  unfolding leaving shownOf outcomeTold nothingTold
   shows-refused x why = record { holds = refl }
 
   shows-taken : (from : Position) → Holds (Shows bytes buffer) (takenStep r from stamp)
@@ -65,19 +66,19 @@ module _ (bytes buffer : List ℕ) (room : length buffer ≡ 1536) (r : Receptio
   shows-taken from = by-test (ltb 6 (leftOf r)) (λ a. record { holds = refl }) (λ a. record { holds = length-take-le (r .length) (drop (256 * placeOf from) buffer) (rw length-drop (omega (arith, place-below from))) })
 
   shows-followed : (from : Position) (number : ℕ) → Holds (Shows bytes buffer) (followed r from number (length bytes) stamp)
-  unfolding followed shut
+  unfolding followed closing
   shows-followed from number =
       by-test _ (λ a. shows-refused r _)
       (λ a. by-test _ (λ b. shows-refused r _) (λ b. by-test _ (λ d. by-test _ (λ e. shows-refused closed _) (λ e. shows-taken from)) (λ d. shows-refused closed _)))
 
-  shows-single : (from : Position) (functional : Bool) (L : ℕ) → 2 + L ≤ length bytes → Holds (Shows bytes buffer) (pick functional (kept r (Single from functional L)) (shut (Single from functional L)))
-  unfolding shut kept shownOf outcomeTold
+  shows-single : (from : Position) (functional : Bool) (L : ℕ) → 2 + L ≤ length bytes → Holds (Shows bytes buffer) (pick functional (leaving r (Single from functional L)) (closing (Single from functional L)))
+  unfolding closing leaving shownOf outcomeTold
   shows-single from functional L h =
       let e : length (take L (drop 2 bytes)) ≡ L = length-take-le L (drop 2 bytes) (rw length-drop (omega arith)) in
       by-test functional (λ a. record { holds = e }) (λ a. record { holds = e })
 
   shows-step : (own : Position) (unit identifier : ℕ) (j : Judged) → Fair own unit identifier bytes j → Shows bytes buffer (stepOf r j (length bytes) stamp)
-  unfolding stepOf opened shut kept shownOf outcomeTold nothingTold
+  unfolding stepOf opened closing leaving shownOf outcomeTold nothingTold
   shows-step own unit identifier (judged.Refused why) f = refl
   shows-step own unit identifier (judged.Single from functional L) f = shows-single from functional L (f .1 .room) .holds
   shows-step own unit identifier (judged.First from L) f = refl
@@ -85,9 +86,11 @@ module _ (bytes buffer : List ℕ) (room : length buffer ≡ 1536) (r : Receptio
   shows-step own unit identifier (judged.Consecutive from number) f = shows-followed from number .holds
 
 module _ (n : Node) (buffer : List ℕ) (identifier : ℕ) (bytes : List ℕ) (stamp : ℕ) (short : (p : ℕ) → receptionAt n p .length ≤ 255) where
-  shown-at : (v : Vehicle) → ((own : Position) → v ≡ At own → length buffer ≡ 1536)
-      → length (shownOf bytes (bufferAt n buffer identifier bytes stamp v) (receivedAt n identifier bytes stamp v .outcome)) ≡ outcomeTold (receivedAt n identifier bytes stamp v .outcome) .length
-  unfolding receivedAt receivedBy bufferAt stepBy shownOf outcomeTold nothingTold
+  abbrev stepAt : Vehicle → Step
+  stepAt v = stepBy n (judgedAt n identifier bytes v) bytes stamp
+
+  shown-at : (v : Vehicle) → ((own : Position) → v ≡ At own → length buffer ≡ bufferLength) → Shows bytes (writtenBy buffer (stepAt v) bytes) (stepAt v)
+  unfolding judgedAt stepBy stepOf leaving shownOf outcomeTold nothingTold
   shown-at NoVehicle room = refl
   shown-at (At own) room =
       let j = judgedOf own (n .unit) identifier bytes in
@@ -95,5 +98,5 @@ module _ (n : Node) (buffer : List ℕ) (identifier : ℕ) (bytes : List ℕ) (s
 
   -- of every node whose lengths are bytes, every buffer and every frame
   pub told-length : length (shownOf bytes (bufferAfter n buffer identifier bytes stamp) (receivedOf n buffer identifier bytes stamp .outcome)) ≡ outcomeTold (receivedOf n buffer identifier bytes stamp .outcome) .length
-  unfolding receivedOf bufferAfter
+  unfolding receivedOf storedIn movedOf movedBy judgedBy bufferAfter
   told-length = shown-at (ownOf n (length buffer)) (λ own e. ready n (length buffer) own e .fits)

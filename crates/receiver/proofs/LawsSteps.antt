@@ -18,12 +18,12 @@ use Rattle.receiver.specs.declared.reception.Reception.{Reception}
 use Rattle.receiver.specs.declared.node.Node.{Node}
 use Rattle.receiver.specs.declared.frame.Judged.{Judged}
 use Rattle.receiver.specs.declared.frame.Judged.the-variants as judged
-use Rattle.receiver.specs.declared.step.Step.{Step}
-use Rattle.receiver.specs.declared.step.Outcome.{Outcome}
-use Rattle.receiver.specs.Receptions.{closed, soundReception}
-use Rattle.receiver.specs.Nodes.{receptionAt, soundNode}
+use Rattle.receiver.specs.declared.outcome.Outcome.{Outcome}
+use Rattle.receiver.specs.Receptions.{closed, soundReception, regionAt}
 use Rattle.receiver.specs.Frames.{judgedOf}
-use Rattle.receiver.specs.Steps.{regionAt, kept, shut, opened, doneOf, leftOf, takenStep, followed, stepOf, judgedPlace, stepBy, receivedBy, writtenBy}
+use Rattle.receiver.specs.Steps.{Step, leaving, closing, opened, doneOf, leftOf, takenStep, followed, stepOf, writtenBy}
+use Rattle.receiver.specs.Receiving.{judgedPlace, stepBy, movedBy, storedIn}
+use Rattle.receiver.specs.Nodes.{receptionAt, soundNode}
 use Rattle.receiver.proofs.LawsFrames.{Fair, fair}
 use Rattle.receiver.proofs.LawsRules.{sound-closed, sound-open, open-facts, sound-at, sound-with}
 
@@ -39,13 +39,13 @@ pub record Fitted (place bytes : ℕ) (s : Step) : Type 0 where
   pub ends : s .at + s .count ≤ 256 * place + 255
   pub sound : soundReception (s .reception) ≡ true
 
-pub kept-fitted : (place bytes : ℕ) (r : Reception) (o : Outcome) → soundReception r ≡ true → Fitted place bytes (kept r o)
-unfolding kept
-kept-fitted place bytes r o h = record { reads = omega arith; begins = λ (z : 0 < 0). absurd (omega arith); ends = omega arith; sound = h }
+pub leaving-fitted : (place bytes : ℕ) (r : Reception) (o : Outcome) → soundReception r ≡ true → Fitted place bytes (leaving r o)
+unfolding leaving
+leaving-fitted place bytes r o h = record { reads = omega arith; begins = λ (z : 0 < 0). absurd (omega arith); ends = omega arith; sound = h }
 
-shut-fitted : (place bytes : ℕ) (o : Outcome) → Fitted place bytes (shut o)
-unfolding shut
-shut-fitted place bytes o = kept-fitted place bytes closed o sound-closed
+closing-fitted : (place bytes : ℕ) (o : Outcome) → Fitted place bytes (closing o)
+unfolding closing
+closing-fitted place bytes o = leaving-fitted place bytes closed o sound-closed
 
 module _ (r : Reception) (count stamp : ℕ) (h : soundReception r ≡ true) (short : r .length ≤ 255) where
   taken-fitted : (from : Position) → r .length ≢ 0 → 2 + min 6 (leftOf r) ≤ count → Holds (Fitted (placeOf from) count) (takenStep r from stamp)
@@ -61,21 +61,21 @@ module _ (r : Reception) (count stamp : ℕ) (h : soundReception r ≡ true) (sh
   followed-fitted : (from : Position) (number : ℕ) → Holds (Fitted (placeOf from) count) (followed r from number count stamp)
   unfolding followed
   followed-fitted from number =
-      by-test _ (λ e. record { holds = kept-fitted _ _ _ _ h })
-      (λ e. by-test _ (λ f. record { holds = kept-fitted _ _ _ _ h })
-      (λ f. by-test _ (λ g. by-test _ (λ i. record { holds = shut-fitted _ _ _ }) (λ i. taken-fitted from (eqb-false _ _ e) (ltb-false _ _ f)))
-      (λ g. record { holds = shut-fitted _ _ _ })))
+      by-test _ (λ e. record { holds = leaving-fitted _ _ _ _ h })
+      (λ e. by-test _ (λ f. record { holds = leaving-fitted _ _ _ _ h })
+      (λ f. by-test _ (λ g. by-test _ (λ i. record { holds = closing-fitted _ _ _ }) (λ i. taken-fitted from (eqb-false _ _ e) (ltb-false _ _ f)))
+      (λ g. record { holds = closing-fitted _ _ _ })))
 
-  single-fitted : (from : Position) (functional : Bool) (o : Outcome) → Holds (Fitted (placeOf from) count) (pick functional (kept r o) (shut o))
-  single-fitted from functional o = by-test _ (λ e. record { holds = kept-fitted _ _ _ _ h }) (λ e. record { holds = shut-fitted _ _ _ })
+  single-fitted : (from : Position) (functional : Bool) (o : Outcome) → Holds (Fitted (placeOf from) count) (pick functional (leaving r o) (closing o))
+  single-fitted from functional o = by-test _ (λ e. record { holds = leaving-fitted _ _ _ _ h }) (λ e. record { holds = closing-fitted _ _ _ })
 
 pub step-fitted : (own : Position) (unit n : ℕ) (r : Reception) (bytes : List ℕ) (stamp : ℕ) (j : Judged) → soundReception r ≡ true → r .length ≤ 255 → Fair own unit n bytes j
     → Fitted (judgedPlace j) (length bytes) (stepOf r j (length bytes) stamp)
 unfolding stepOf opened regionAt
-step-fitted own unit n r bytes stamp (judged.Refused why) h s f = kept-fitted _ _ _ _ h
+step-fitted own unit n r bytes stamp (judged.Refused why) h s f = leaving-fitted _ _ _ _ h
 step-fitted own unit n r bytes stamp (judged.Single from functional L) h s f = single-fitted r (length bytes) stamp h s from functional _ .holds
 step-fitted own unit n r bytes stamp (judged.First from L) h s f = record { reads = f .1 .room; begins = λ l. omega arith; ends = omega arith; sound = sound-open L 0 stamp (f .1 .least) (omega (arith, f .1 .least)) }
-step-fitted own unit n r bytes stamp (judged.OverLong from) h s f = shut-fitted _ _ _
+step-fitted own unit n r bytes stamp (judged.OverLong from) h s f = closing-fitted _ _ _
 step-fitted own unit n r bytes stamp (judged.Consecutive from number) h s f = followed-fitted r (length bytes) stamp h s from number .holds
 
 -- the vehicle whose reception a judged frame is about
@@ -102,12 +102,16 @@ unfolding writtenBy
 length-after buffer s bytes = length-written buffer (s .at) _
 
 -- what changes nothing writes nothing
-pub kept-writes : (buffer : List ℕ) (r : Reception) (o : Outcome) (bytes : List ℕ) → writtenBy buffer (kept r o) bytes ≡ buffer
-unfolding writtenBy kept
-kept-writes buffer r o bytes = written-none buffer 0
+pub leaving-writes : (buffer : List ℕ) (r : Reception) (o : Outcome) (bytes : List ℕ) → writtenBy buffer (leaving r o) bytes ≡ buffer
+unfolding writtenBy leaving
+leaving-writes buffer r o bytes = written-none buffer 0
 
-pub unwritten : (buffer : List ℕ) (r : Reception) (o : Outcome) (bytes : List ℕ) {s : Step} → s ≡ kept r o → buffer ≡ writtenBy buffer s bytes
-unwritten buffer r o bytes e = rw e (sym (kept-writes buffer r o bytes))
+pub unwritten : (buffer : List ℕ) (r : Reception) (o : Outcome) (bytes : List ℕ) {s : Step} → s ≡ leaving r o → buffer ≡ writtenBy buffer s bytes
+unwritten buffer r o bytes e = rw e (sym (leaving-writes buffer r o bytes))
+
+pub unclosed : (buffer : List ℕ) (o : Outcome) (bytes : List ℕ) {s : Step} → s ≡ closing o → buffer ≡ writtenBy buffer s bytes
+unfolding closing
+unclosed buffer o bytes e = unwritten buffer closed o bytes e
 
 -- ---- the step of a node that keeps its rules, by a frame that checks 2 to 10 judge
 module _ (n : Node) (own : Position) (identifier : ℕ) (bytes : List ℕ) (stamp : ℕ) (s : soundNode n ≡ true) where
@@ -119,6 +123,6 @@ module _ (n : Node) (own : Position) (identifier : ℕ) (bytes : List ℕ) (stam
     unfolding stepBy
     node-fitted = step-fitted own (n .unit) identifier _ bytes stamp frame (sound-at n _ s (place-judged frame)) short (fair own (n .unit) identifier bytes frame refl)
 
-    pub received-sound : soundNode (receivedBy n frame bytes stamp .node) ≡ true
-    unfolding receivedBy
+    pub received-sound : soundNode (storedIn n (movedBy n frame bytes stamp) .node) ≡ true
+    unfolding storedIn movedBy
     received-sound = sound-with n (judgedPlace frame) _ (node-fitted .sound) s

@@ -4,6 +4,7 @@ pub mod LawsRules
 pub mod LawsPieces
 pub mod LawsOnWire
 pub mod LawsCutter
+pub mod LawsAddressings
 pub mod LawsFrames
 pub mod LawsKinds
 pub mod LawsRungs

@@ -22,13 +22,14 @@ use Rattle.receiver.specs.declared.reception.Reception.{Reception}
 use Rattle.receiver.specs.declared.node.Node.{Node}
 use Rattle.receiver.specs.declared.frame.Judged.{Judged}
 use Rattle.receiver.specs.declared.frame.Judged.the-variants as judged
-use Rattle.receiver.specs.declared.step.Step.{Step}
-use Rattle.receiver.specs.declared.step.Outcome.{Outcome}
-use Rattle.receiver.specs.declared.step.Outcome.the-variants.{Refused, OverLong, Opened, Taken, Single, Train}
+use Rattle.receiver.specs.declared.outcome.Outcome.{Outcome}
+use Rattle.receiver.specs.declared.outcome.Outcome.the-variants.{Refused, OverLong, Opened, Taken, Single, Train}
 use Rattle.receiver.specs.Receptions.{closed}
-use Rattle.receiver.specs.Nodes.{receptionAt, withReception}
 use Rattle.receiver.specs.Frames.{judgedOf}
-use Rattle.receiver.specs.Steps.{kept, shut, opened, takenStep, followed, stepOf, judgedPlace, stepBy, ownOf, receivedBy, receivedAt, receivedOf, writtenBy, bufferAt, bufferAfter, nothingTold, outcomeTold}
+use Rattle.receiver.specs.Outcomes.{nothingTold, outcomeTold}
+use Rattle.receiver.specs.Steps.{Step, leaving, closing, opened, takenStep, followed, stepOf, writtenBy}
+use Rattle.receiver.specs.Receiving.{judgedPlace, stepBy, ownOf, judgedAt, judgedBy, movedBy, movedOf, storedIn, receivedOf, bufferAfter}
+use Rattle.receiver.specs.Nodes.{receptionAt, withReception}
 use Rattle.receiver.specs.Changes.{closes, Does, Changes, Leaves}
 use Rattle.receiver.specs.Wire.{Addressed}
 use Rattle.receiver.proofs.LawsNodes.{put-back}
@@ -38,8 +39,8 @@ use Rattle.receiver.proofs.LawsFrames.{fair, refused-number}
 abbrev By : Reception → List ℕ → ℕ → Step → Type 0
 By r bytes stamp s = Changes r bytes stamp s (s .outcome)
 
-does-nothing : (r x : Reception) (o : Outcome) → x ≡ r → Does (kept x o) 0 0 0 r
-unfolding kept
+does-nothing : (r x : Reception) (o : Outcome) → x ≡ r → Does (leaving x o) 0 0 0 r
+unfolding leaving
 does-nothing r x o e = record { written-at = refl; read-from = refl; bytes = refl; reception = e }
 
 low-keeps : (number : ℕ) → number ≤ 10 → closes number ≡ false
@@ -49,12 +50,12 @@ low-keeps number h =
     (right-decides (ne-eqb number 13 (λ (e : number ≡ 13). omega arith)) (sym (ne-eqb number 14 (λ (e : number ≡ 14). omega arith)))))
 
 module _ (r : Reception) (bytes : List ℕ) (stamp : ℕ) where
-  refused-keeps : (why : Refusal) → closes (numberOf why) ≡ false → Holds (By r bytes stamp) (kept r (Refused why))
-  unfolding kept
+  refused-keeps : (why : Refusal) → closes (numberOf why) ≡ false → Holds (By r bytes stamp) (leaving r (Refused why))
+  unfolding leaving
   refused-keeps why e = record { holds = does-nothing _ r (Refused why) (sym (pick-false closed r e)) }
 
-  refused-shuts : (why : Refusal) → closes (numberOf why) ≡ true → Holds (By r bytes stamp) (shut (Refused why))
-  unfolding shut kept
+  refused-shuts : (why : Refusal) → closes (numberOf why) ≡ true → Holds (By r bytes stamp) (closing (Refused why))
+  unfolding closing leaving
   refused-shuts why e = record { holds = does-nothing _ closed (Refused why) (sym (pick-true closed r e)) }
 
   changes-taken : (from : Position) → Holds (By r bytes stamp) (takenStep r from stamp)
@@ -70,13 +71,13 @@ module _ (r : Reception) (bytes : List ℕ) (stamp : ℕ) where
       (λ a. by-test _ (λ b. refused-keeps (refusal 9) refl)
       (λ b. by-test _ (λ d. by-test _ (λ e. refused-shuts (refusal 14) refl) (λ e. changes-taken from)) (λ d. refused-shuts (refusal 13) refl)))
 
-  single-changes : (from : Position) (functional : Bool) (L : ℕ) → Holds (By r bytes stamp) (pick functional (kept r (Single from functional L)) (shut (Single from functional L)))
-  unfolding pick shut kept
+  single-changes : (from : Position) (functional : Bool) (L : ℕ) → Holds (By r bytes stamp) (pick functional (leaving r (Single from functional L)) (closing (Single from functional L)))
+  unfolding pick closing leaving
   single-changes from true L = record { holds = does-nothing r r (Single from true L) refl }
   single-changes from false L = record { holds = does-nothing closed closed (Single from false L) refl }
 
   changes-judged : (own : Position) (unit identifier : ℕ) (j : Judged) → judgedOf own unit identifier bytes ≡ j → By r bytes stamp (stepOf r j (length bytes) stamp)
-  unfolding stepOf opened shut kept
+  unfolding stepOf opened closing leaving
   changes-judged own unit identifier (judged.Refused why) f = refused-keeps why (low-keeps _ (refused-number own unit identifier bytes why f .1)) .holds
   changes-judged own unit identifier (judged.Single from functional L) f = single-changes from functional L .holds
   changes-judged own unit identifier (judged.First from L) f =
@@ -140,27 +141,26 @@ module _ (n : Node) (buffer : List ℕ) (identifier : ℕ) (bytes : List ℕ) (s
       let s = stepFrom (placeOf p) j in
       step-leaves p by-source s (s .outcome) (changes-judged (receptionAt n (placeOf p)) bytes stamp own (n .unit) identifier j f)
 
-  unnamed : (own : Position) (why : Refusal) → judgedOf own (n .unit) identifier bytes ≡ judged.Refused why → LeavesBy 0 (stepFrom 0 (judged.Refused why))
-  unfolding stepOf kept outcomeTold nothingTold
-  unnamed own why f e =
-      let low : number ≤ 10 = rw e at (refused-number own (n .unit) identifier bytes why f .1) in
-      rw (put-back n 0, nothing-written buffer (kept (receptionAt n 0) (Refused why)) bytes refl refl refl) (as-found low)
+  unnamed : (why : Refusal) → numberOf why ≤ 10 → LeavesBy 0 (stepFrom 0 (judged.Refused why))
+  unfolding stepOf leaving outcomeTold nothingTold
+  unnamed why h e =
+      let low : number ≤ 10 = rw e at h in
+      rw (put-back n 0, nothing-written buffer (leaving (receptionAt n 0) (Refused why)) bytes refl refl refl) (as-found low)
 
   judged-leaves : (own : Position) (j : Judged) → judgedOf own (n .unit) identifier bytes ≡ j → LeavesBy (judgedPlace j) (stepFrom (judgedPlace j) j)
-  judged-leaves own (judged.Refused why) f = unnamed own why f
+  judged-leaves own (judged.Refused why) f = unnamed why (refused-number own (n .unit) identifier bytes why f .1)
   judged-leaves own (judged.Single p functional L) f = of-vehicle own p _ f (source (fair own (n .unit) identifier bytes _ f .0))
   judged-leaves own (judged.First p L) f = of-vehicle own p _ f (source (fair own (n .unit) identifier bytes _ f .0))
   judged-leaves own (judged.OverLong p) f = of-vehicle own p _ f (source (fair own (n .unit) identifier bytes _ f .0))
   judged-leaves own (judged.Consecutive p k) f = of-vehicle own p _ f (source (fair own (n .unit) identifier bytes _ f .0))
 
-  leaves-at : (v : Vehicle) → outcomeTold (receivedAt n identifier bytes stamp v .outcome) .refusal ≡ number
-      → Leaves n buffer identifier number (receivedAt n identifier bytes stamp v .node) (bufferAt n buffer identifier bytes stamp v)
-  unfolding receivedAt receivedBy bufferAt stepBy outcomeTold nothingTold
-  leaves-at NoVehicle e = as-found (omega (arith, e))
-  leaves-at (At own) e = judged-leaves own _ refl e
+  leaves-at : (v : Vehicle) → let j = judgedAt n identifier bytes v in LeavesBy (judgedPlace j) (stepBy n j bytes stamp)
+  unfolding judgedAt stepBy
+  leaves-at NoVehicle = unnamed (refusal 1) (omega arith)
+  leaves-at (At own) = judged-leaves own _ refl
 
   -- "A refusal .. leaves state and buffers as found; 11, 13 and 14 close that vehicle's reception": of every node, buffer and frame
   pub refusal-leaves : outcomeTold (receivedOf n buffer identifier bytes stamp .outcome) .refusal ≡ number
       → Leaves n buffer identifier number (receivedOf n buffer identifier bytes stamp .node) (bufferAfter n buffer identifier bytes stamp)
-  unfolding receivedOf bufferAfter
+  unfolding receivedOf storedIn movedOf movedBy judgedBy bufferAfter
   refusal-leaves = leaves-at (ownOf n (length buffer))

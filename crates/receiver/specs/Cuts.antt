@@ -18,14 +18,14 @@ use Rattle.readings.specs.declared.position.Vehicle.the-variants.{At, NoVehicle
 use Rattle.receiver.specs.declared.node.Answer.the-variants.{Done, Refused}
 use Rattle.receiver.specs.declared.cutter.FrameCut.{FrameCut}
 use Rattle.receiver.specs.declared.cutter.FrameCutTold.{FrameCutTold}
-use Rattle.receiver.specs.declared.step.Control.{Control}
-use Rattle.receiver.specs.declared.step.Control.the-variants.{Continue, Overflow}
+use Rattle.receiver.specs.declared.outcome.Control.{Control}
+use Rattle.receiver.specs.declared.outcome.Control.the-variants.{Continue, Overflow}
 use Rattle.receiver.specs.Nodes.{answerNumber}
 use Rattle.receiver.specs.Frames.{Frame}
 
 -- "one single frame up to 6 bytes, else a first frame and consecutive frames 1 to ceiling((L-5)/6)"; none for 0 or over 255
-unfoldable pub framesOf : ℕ → ℕ
-framesOf L = pick (either (eqb L 0) (ltb 255 L)) 0 (pick (leb L 6) 1 (1 + (L - 5 + 5) / 6))
+unfoldable pub frameCount : ℕ → ℕ
+frameCount L = pick (either (eqb L 0) (ltb 255 L)) 0 (pick (leb L 6) 1 (1 + (L - 5 + 5) / 6))
 
 -- 16: no frame, and all numbers 0
 unfoldable pub noFrame : FrameCut
@@ -62,14 +62,14 @@ between NoVehicle to frame = noFrame
 -- 16 "message of 0 or over 255, frame past the last"
 unfoldable pub cutOf : List ℕ → ℕ → ℕ → ℕ → ℕ → FrameCut
 cutOf message k from to unit =
-    pick (either (eqb from to) (leb (framesOf (length message)) k)) noFrame
+    pick (either (eqb from to) (leb (frameCount (length message)) k)) noFrame
     (between (positionAt from) (positionAt to) (λ sender receiver. pieceOf sender receiver unit message k))
 
 -- 16 "message of 0 or over 255, frame past the last, positions over 5 or equal"
 pub data Uncut (message : List ℕ) (k from to : ℕ) : Type 0 where
   empty : length message ≡ 0 → Uncut message k from to
   too-long : 255 < length message → Uncut message k from to
-  past-last : framesOf (length message) ≤ k → Uncut message k from to
+  past-last : frameCount (length message) ≤ k → Uncut message k from to
   no-sender : 5 < from → Uncut message k from to
   no-receiver : 5 < to → Uncut message k from to
   same-position : from ≡ to → Uncut message k from to
@@ -83,8 +83,8 @@ unfoldable pub controlByte : Control → ℕ
 controlByte Continue = 0x30
 controlByte Overflow = 0x32
 
-unfoldable pub controlOf : Control → ℕ → ℕ → ℕ → FrameCut
-controlOf control from to unit =
+unfoldable pub flowControlOf : Control → ℕ → ℕ → ℕ → FrameCut
+flowControlOf control from to unit =
     pick (eqb from to) noFrame
     (between (positionAt from) (positionAt to) (λ sender receiver. headed sender receiver (unit ∷ []) (controlByte control ∷ 0 ∷ 0 ∷ [])))
 

@@ -14,6 +14,7 @@ use Rattle.readings.specs.declared.position.Position.{Position}
 use Rattle.receiver.specs.declared.reception.Reception.{Reception}
 use Rattle.receiver.specs.declared.node.Node.{Node}
 use Rattle.receiver.specs.Nodes.{receptionAt}
+use Rattle.receiver.specs.Receptions.{bufferLength}
 use Rattle.receiver.specs.Steps.{gapOf}
 use Rattle.receiver.specs.Wire.{Addressed, IsConsecutive}
 
@@ -65,19 +66,24 @@ pub data Malformed (functional : Bool) (bytes : List ℕ) : Type 0 where
   first-under-seven : functional ≡ false → getD bytes 1 0 / 16 ≡ 1 → 8 ≤ length bytes → getD bytes 1 0 % 16 * 256 + getD bytes 2 0 < 7 → Malformed functional bytes
   no-kind : 2 ≤ length bytes → functional ≡ false → 4 ≤ getD bytes 1 0 / 16 → Malformed functional bytes
 
--- refusals 2 to 10, "Lowest first": for a node at this own position, with this unit
-pub data Names (own : Position) (unit n : ℕ) (bytes : List ℕ) : Refusal → Type 0 where
+-- refusals 2 to 8, "Lowest first": for a node at this own position, with this unit
+pub data Misaddressed (own : Position) (unit n : ℕ) (bytes : List ℕ) : Refusal → Type 0 where
   -- 2 "identifier 2^29 or more"
-  names-2 : 2 ^ 29 ≤ n → Names own unit n bytes (refusal 2)
+  names-2 : 2 ^ 29 ≤ n → Misaddressed own unit n bytes (refusal 2)
   -- 3 "more than 8 data bytes"
-  names-3 : n < 2 ^ 29 → 8 < length bytes → Names own unit n bytes (refusal 3)
+  names-3 : n < 2 ^ 29 → 8 < length bytes → Misaddressed own unit n bytes (refusal 3)
   -- 4 "R set"
-  names-4 : n < 2 ^ 29 → length bytes ≤ 8 → reservedBit n ≡ 1 → Names own unit n bytes (refusal 4)
-  names-5 : Readable n bytes → NotDiagnostic n → Names own unit n bytes (refusal 5)
-  names-6 : {functional : Bool} → Diagnostic n bytes functional → NoOtherVehicle own n → Names own unit n bytes (refusal 6)
+  names-4 : n < 2 ^ 29 → length bytes ≤ 8 → reservedBit n ≡ 1 → Misaddressed own unit n bytes (refusal 4)
+  names-5 : Readable n bytes → NotDiagnostic n → Misaddressed own unit n bytes (refusal 5)
+  names-6 : {functional : Bool} → Diagnostic n bytes functional → NoOtherVehicle own n → Misaddressed own unit n bytes (refusal 6)
   -- 7 "PS not as above"
-  names-7 : {p : Position} {functional : Bool} → FromOther own n bytes p functional → fieldsOf n .specific ≢ destinedTo own functional → Names own unit n bytes (refusal 7)
-  names-8 : {p : Position} {functional : Bool} → FromOther own n bytes p functional → fieldsOf n .specific ≡ destinedTo own functional → OtherUnit unit bytes → Names own unit n bytes (refusal 8)
+  names-7 : {p : Position} {functional : Bool} → FromOther own n bytes p functional → fieldsOf n .specific ≢ destinedTo own functional → Misaddressed own unit n bytes (refusal 7)
+  names-8 : {p : Position} {functional : Bool} → FromOther own n bytes p functional → fieldsOf n .specific ≡ destinedTo own functional → OtherUnit unit bytes
+      → Misaddressed own unit n bytes (refusal 8)
+
+-- refusals 2 to 10
+pub data Names (own : Position) (unit n : ℕ) (bytes : List ℕ) : Refusal → Type 0 where
+  misaddressed : {why : Refusal} → Misaddressed own unit n bytes why → Names own unit n bytes why
   names-9 : {p : Position} {functional : Bool} → Addressed own unit n bytes p functional → Malformed functional bytes → Names own unit n bytes (refusal 9)
   -- 10 "physical flow control"
   names-10 : {p : Position} → Addressed own unit n bytes p false → 2 ≤ length bytes → getD bytes 1 0 / 16 ≡ 3 → Names own unit n bytes (refusal 10)
@@ -107,4 +113,4 @@ pub data Broken (n : Node) (buffer : List ℕ) : Type 0 where
   not-a-trailer : n .own < 1 → Broken n buffer
   past-the-last : 5 < n .own → Broken n buffer
   broken-reception : {p : ℕ} → p < 6 → BrokenReception (receptionAt n p) → Broken n buffer
-  other-room : length buffer ≢ 1536 → Broken n buffer
+  other-room : length buffer ≢ bufferLength → Broken n buffer

@@ -4,10 +4,10 @@ use Prim.Native.Nat.{ℕ}
 use lib.Dec.{eqb}
 use lib.ListN.{take, drop}
 use Rattle.identifiers.specs.Choice.{pick}
-use Rattle.receiver.specs.declared.step.Outcome.{Outcome}
-use Rattle.receiver.specs.declared.step.Outcome.the-variants.{Refused, OverLong, Opened, Taken, Single, Train}
-use Rattle.receiver.specs.declared.step.OutcomeTold.{OutcomeTold}
-use Rattle.receiver.specs.Steps.{regionAt}
+use Rattle.receiver.specs.declared.outcome.Outcome.{Outcome}
+use Rattle.receiver.specs.declared.outcome.Outcome.the-variants.{Refused, OverLong, Opened, Taken, Single, Train}
+use Rattle.receiver.specs.declared.outcome.OutcomeTold.{OutcomeTold}
+use Rattle.receiver.specs.Receptions.{regionAt}
 
 unfoldable pub shownOf : List ℕ → List ℕ → Outcome → List ℕ
 shownOf bytes buffer (Refused why) = []

@@ -3,10 +3,10 @@ ghost use mathlib.Core.Path.{_≡_};
 ghost use Prim.Native.Nat.{_+_, _≤_, _<_};
 ghost use mathlib.Core.List.{[], _∷_};
 ghost use lib.ListN.{length, take, drop};
-ghost use Rattle.receiver.specs.Cuts.{framesOf, noFrame, framed, headed, pieceOf, cutOf, controlByte, controlOf, cutTold};
+ghost use Rattle.receiver.specs.Cuts.{frameCount, noFrame, framed, headed, pieceOf, cutOf, controlByte, flowControlOf, cutTold};
 use crate::bytes::store;
 use crate::node::Answer;
-use crate::step::Control;
+use crate::outcome::Control;
 use identifiers::Identifier;
 use identifiers::IdentifierWritten;
 use identifiers::Refusal;
@@ -31,7 +31,7 @@ pub struct FrameCutTold {
 
 // How many frames a message of this length has: 0 where it can't be cut.
 pub fn frame_count(total: usize) -> usize
-    ensures { λ r. ⌜ r ≡ framesOf total ⌝ }
+    ensures { λ r. ⌜ r ≡ frameCount total ⌝ }
 {
     if total == 0 {
         return 0;
@@ -45,7 +45,7 @@ pub fn frame_count(total: usize) -> usize
     1 + total / 6
 }
 
-fn refused() -> FrameCut
+fn no_frame() -> FrameCut
     ensures { λ r. ⌜ r ≡ noFrame ⌝ }
 {
     FrameCut {
@@ -68,7 +68,7 @@ fn frame(sender: Position, receiver: Position, length: u8, data: [u8; 8]) -> Fra
         source: sender.address(),
     };
     let IdentifierWritten::Number(identifier) = fields.write() else {
-        return refused();
+        return no_frame();
     };
     FrameCut {
         answer: Answer::Done,
@@ -108,7 +108,7 @@ fn first(sender: Position, receiver: Position, unit: u8, message: &[u8]) -> Fram
 
 // Frame `number` of a message that has so many.
 fn piece(sender: Position, receiver: Position, unit: u8, message: &[u8], number: usize) -> FrameCut
-    requires { ⌜ number < framesOf (length (now message)) ⌝ }
+    requires { ⌜ number < frameCount (length (now message)) ⌝ }
     ensures { λ r. ⌜ r ≡ pieceOf sender receiver unit (now (message .entry)) number ⌝ }
 {
     let total = message.len();
@@ -139,18 +139,18 @@ pub fn cut(message: &[u8], number: usize, from: u8, to: u8, unit: u8) -> FrameCu
     ensures { λ r. ⌜ r ≡ cutOf (now (message .entry)) number from to unit ⌝ }
 {
     let Vehicle::At(sender) = Position::at(from) else {
-        return refused();
+        return no_frame();
     };
     let Vehicle::At(receiver) = Position::at(to) else {
-        return refused();
+        return no_frame();
     };
     if (from == to) | (frame_count(message.len()) <= number) {
-        return refused();
+        return no_frame();
     }
     piece(sender, receiver, unit, message, number)
 }
 
-fn status(control: Control) -> u8
+fn control_byte(control: Control) -> u8
     ensures { λ r. ⌜ r ≡ controlByte control ⌝ }
 {
     match control {
@@ -161,22 +161,22 @@ fn status(control: Control) -> u8
 
 // The frame of flow control: refusal 16 for positions over 5 or equal.
 pub fn flow_control(control: Control, from: u8, to: u8, unit: u8) -> FrameCut
-    ensures { λ r. ⌜ r ≡ controlOf control from to unit ⌝ }
+    ensures { λ r. ⌜ r ≡ flowControlOf control from to unit ⌝ }
 {
     let Vehicle::At(sender) = Position::at(from) else {
-        return refused();
+        return no_frame();
     };
     let Vehicle::At(receiver) = Position::at(to) else {
-        return refused();
+        return no_frame();
     };
     if from == to {
-        return refused();
+        return no_frame();
     }
     frame(
         sender,
         receiver,
         4,
-        [unit, status(control), 0, 0, 0, 0, 0, 0],
+        [unit, control_byte(control), 0, 0, 0, 0, 0, 0],
     )
 }
 

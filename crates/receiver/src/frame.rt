@@ -1,12 +1,11 @@
-// What a frame is by itself: checks 2 to 10, which look at no reception.
+// What a frame carries, checks 9 and 10, and what it is by itself: checks 2 to 10, which look at no reception.
 ghost use mathlib.Core.Path.{_≡_};
-ghost use lib.ListN.{length, getD};
-ghost use Rattle.receiver.specs.Frames.{singleOf, firstOf, kindOf, unitIs, destinationOf, addressedOf, judgedOf};
-use identifiers::Identifier;
-use identifiers::IdentifierRead;
+ghost use lib.ListN.{length};
+ghost use Rattle.receiver.specs.Frames.{singleOf, firstOf, carriedOf, judgedOf};
+use crate::addressing::Addressing;
+use crate::addressing::addressing_of;
 use identifiers::Refusal;
 use readings::Position;
-use readings::Vehicle;
 
 // A frame refused by checks 2 to 10, or from whom it is and what it carries.
 pub enum Judged {
@@ -73,8 +72,8 @@ fn first(from: Position, data: &[u8]) -> Judged
 }
 
 // Checks 9 and 10: the second byte's high half.
-fn kind(from: Position, functional: bool, data: &[u8]) -> Judged
-    ensures { λ r. ⌜ r ≡ kindOf from functional (now («data» .entry)) ⌝ }
+fn carried(from: Position, functional: bool, data: &[u8]) -> Judged
+    ensures { λ r. ⌜ r ≡ carriedOf from functional (now («data» .entry)) ⌝ }
 {
     if data.len() < 2 {
         return Judged::Refused(Refusal::Malformed);
@@ -99,54 +98,12 @@ fn kind(from: Position, functional: bool, data: &[u8]) -> Judged
     Judged::Refused(Refusal::Malformed)
 }
 
-fn is_unit(unit: u8, data: &[u8]) -> bool
-    ensures { λ r. ⌜ r ≡ unitIs unit (now («data» .entry)) ⌝ }
-{
-    if data.len() == 0 {
-        return false;
-    }
-    data[0] == unit
-}
-
-fn destination(own: Position, functional: bool) -> u8
-    ensures { λ r. ⌜ r ≡ destinationOf own functional ⌝ }
-{
-    if functional {
-        return Position::GLOBAL;
-    }
-    own.address()
-}
-
-// Checks 5 to 8, then 9 and 10.
-fn addressed(own: Position, unit: u8, fields: Identifier, data: &[u8]) -> Judged
-    ensures { λ r. ⌜ r ≡ addressedOf own unit fields (now («data» .entry)) ⌝ }
-{
-    let functional = fields.format == 205;
-    let diagnostic = (fields.data_page == 0) & (functional | (fields.format == 206));
-    if !diagnostic {
-        return Judged::Refused(Refusal::NotDiagnostic);
-    }
-    let Vehicle::At(from) = Position::of_address(fields.source) else {
-        return Judged::Refused(Refusal::NoOtherVehicle);
-    };
-    if from.place() == own.place() {
-        return Judged::Refused(Refusal::NoOtherVehicle);
-    }
-    if fields.specific != destination(own, functional) {
-        return Judged::Refused(Refusal::OtherDestination);
-    }
-    if !is_unit(unit, data) {
-        return Judged::Refused(Refusal::OtherUnit);
-    }
-    kind(from, functional, data)
-}
-
 // Checks 2 to 10.
 pub fn judge(own: Position, unit: u8, identifier: u32, data: &[u8]) -> Judged
     ensures { λ r. ⌜ r ≡ judgedOf own unit identifier (now («data» .entry)) ⌝ }
 {
-    match Identifier::of_frame(identifier, data) {
-        IdentifierRead::Refused(why) => Judged::Refused(why),
-        IdentifierRead::Fields(fields) => addressed(own, unit, fields, data),
+    match addressing_of(own, unit, identifier, data) {
+        Addressing::Refused(why) => Judged::Refused(why),
+        Addressing::From { from, functional } => carried(from, functional, data),
     }
 }

@@ -1,11 +1,14 @@
 // The receiver and the cutter: the node's state, one frame received, the shown message, flow control, one frame cut.
+mod addressing;
 mod bytes;
 mod cutter;
 mod frame;
 mod node;
+mod outcome;
+mod receiving;
 mod reception;
 mod show;
-mod step;
+mod steps;
 
 pub use cutter::FrameCut;
 pub use cutter::FrameCutTold;
@@ -18,13 +21,14 @@ pub use node::Node;
 pub use node::fresh;
 pub use node::start;
 pub use node::take_address;
+pub use outcome::Control;
+pub use outcome::Due;
+pub use outcome::Outcome;
+pub use outcome::OutcomeTold;
+pub use receiving::Moved;
+pub use receiving::Received;
+pub use receiving::move_reception;
+pub use receiving::receive;
+pub use reception::BUFFER;
 pub use reception::Reception;
 pub use show::shown;
-pub use step::Control;
-pub use step::Due;
-pub use step::Moved;
-pub use step::Outcome;
-pub use step::OutcomeTold;
-pub use step::Received;
-pub use step::move_reception;
-pub use step::receive;

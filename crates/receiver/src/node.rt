@@ -76,7 +76,7 @@ fn is_sound(node: Node) -> bool
 }
 
 // All receptions closed.
-fn all_closed(own: u8, unit: u8) -> Node
+fn fresh_node(own: u8, unit: u8) -> Node
     ensures { λ r. ⌜ r ≡ freshNode own unit ⌝ }
 {
     Node {
@@ -90,10 +90,10 @@ fn all_closed(own: u8, unit: u8) -> Node
 pub fn start(unit: u8) -> Node
     ensures { λ r. ⌜ r ≡ startOf unit ⌝ }
 {
-    all_closed(1, unit)
+    fresh_node(1, unit)
 }
 
-fn refused(node: Node, why: Refusal) -> Changed
+fn unchanged(node: Node, why: Refusal) -> Changed
     ensures { λ r. ⌜ r ≡ unchanged node why ⌝ }
 {
     Changed {
@@ -106,9 +106,9 @@ fn refused(node: Node, why: Refusal) -> Changed
 pub fn fresh(own: u8, unit: u8) -> Changed
     ensures { λ r. ⌜ r ≡ freshOf own unit ⌝ }
 {
-    let node = all_closed(own, unit);
+    let node = fresh_node(own, unit);
     let Vehicle::At(_) = Position::trailer(own) else {
-        return refused(node, Refusal::RulesBroken);
+        return unchanged(node, Refusal::RulesBroken);
     };
     Changed {
         node,
@@ -121,10 +121,10 @@ pub fn take_address(node: Node, source: u8) -> Changed
     ensures { λ r. ⌜ r ≡ takenBy node source ⌝ }
 {
     if !is_sound(node) {
-        return refused(node, Refusal::RulesBroken);
+        return unchanged(node, Refusal::RulesBroken);
     }
     let AddressTaken::Own(position) = Position::after(source) else {
-        return refused(node, Refusal::NoAddress);
+        return unchanged(node, Refusal::NoAddress);
     };
     let own = position.place();
     if own == node.own {
@@ -134,7 +134,7 @@ pub fn take_address(node: Node, source: u8) -> Changed
         };
     }
     Changed {
-        node: all_closed(own, node.unit),
+        node: fresh_node(own, node.unit),
         answer: Answer::Done,
     }
 }

@@ -1,6 +1,11 @@
-// The reception of one vehicle: closed, or open with its length, the consecutive frames taken and the last stamp.
+// The reception of one vehicle, closed, or open with its length, the consecutive frames taken and the last stamp; and its part of the buffer.
 ghost use mathlib.Core.Path.{_≡_};
-ghost use Rattle.receiver.specs.Receptions.{closed, soundReception};
+ghost use Prim.Native.Nat.{_≤_};
+ghost use Rattle.receiver.specs.Receptions.{closed, soundReception, regionAt};
+use readings::Position;
+
+// The bytes of a reception buffer: 256 for each position.
+pub const BUFFER: usize = 1536;
 
 #[repr(C)]
 pub struct Reception {
@@ -33,4 +38,11 @@ impl Reception {
         }
         (7 <= length) & (5 + 6 * taken < length)
     }
+}
+
+// Where the bytes of a position begin.
+pub fn region(position: Position) -> usize
+    ensures { λ r. ⌜ (r ≡ regionAt position) × (r ≤ 1280) ⌝ }
+{
+    256 * position.place() as usize
 }

@@ -2,7 +2,8 @@
 ghost use mathlib.Core.Path.{_≡_};
 ghost use lib.ListN.{take, drop};
 ghost use Rattle.receiver.specs.Shown.{shownOf};
-use crate::step::Outcome;
+use crate::outcome::Outcome;
+use crate::reception::region;
 
 // The `count` bytes from `at` on, or as many of them as there are.
 fn part<'a>(s: &'a [u8], at: usize, count: usize) -> &'a [u8]
@@ -27,10 +28,7 @@ pub fn shown<'a>(data: &'a [u8], buffer: &'a [u8], outcome: Outcome) -> &'a [u8]
             functional: _,
             length,
         } => part(data, 2, length as usize),
-        Outcome::Train { from, length } => {
-            let at = 256 * (from.place() as usize);
-            part(buffer, at, length as usize)
-        }
+        Outcome::Train { from, length } => part(buffer, region(from), length as usize),
         _ => part(data, 0, 0),
     }
 }

@@ -18,8 +18,8 @@ use Rattle.receiver.specs.declared.cutter.FrameCut.{FrameCut}
 use Rattle.receiver.specs.declared.frame.Judged.the-variants.{Single, First, OverLong, Consecutive}
 use Rattle.receiver.specs.Nodes.{freshNode, startOf, freshOf}
 use Rattle.receiver.specs.Frames.{Frame}
-use Rattle.receiver.specs.Cuts.{framesOf, noFrame, cutOf, Uncut}
-use Rattle.trains.specs.Sequences.{Line, start, _▹_, size, Request, seen, Elsewhere, Underway, Complete, Stands, Reading, none-yet, no-more, one-more}
+use Rattle.receiver.specs.Cuts.{frameCount, noFrame, cutOf, Uncut}
+use Rattle.trains.specs.Sequences.{Line, start, _▹_, size, Request, seen, Elsewhere, Underway, Complete, Stands, ReadAs, none-yet, no-more, one-more}
 use Rattle.trains.specs.Runs.{Held, handedAt, requests}
 use Rattle.receiver.specs.Wire.{Addressed, IsSingle, IsFirst, IsOverLong, IsConsecutive}
 use Rattle.trains.specs.Terms.{Within, same, later, only, fromAddress, origin, Aside, Fate, Follows, Whole, cutFrame, SentWhole, sends, InTime}
@@ -66,7 +66,7 @@ module _ (own : Position) (unit : ℕ) (x : Held) where
 
   -- So the requests handed out on a sequence are its reading, and no other list is.
   abbrev pub RequestsAreTheReading : Type 0
-  RequestsAreTheReading = (h : Line) (r : List Request) → Reading own unit h r ↔ requests x h ≡ r
+  RequestsAreTheReading = (h : Line) (r : List Request) → ReadAs own unit h r ↔ requests x h ≡ r
 
   -- Every request handed out has 1 to 255 bytes and comes from another position: the server never answers it with 17 for its length.
   abbrev pub RequestLength : Type 0
@@ -79,17 +79,17 @@ module _ (own : Position) (unit : ℕ) (x : Held) where
       → requests x (h ▹ f) ≡ requestAt h p false m ∷ requests x h
 
   -- and whatever comes after, it stays among them.
-  abbrev pub KeptAfterwards : Type 0
-  KeptAfterwards = (h g : Line) → Within h g → (more : List Request) × (requests x g ≡ more ++ requests x h)
+  abbrev pub StaysAfterwards : Type 0
+  StaysAfterwards = (h g : Line) → Within h g → (more : List Request) × (requests x g ≡ more ++ requests x h)
 
 -- ---- of sequences of frames offered to a node at this own position, with this unit
 module _ (own : Position) (unit : ℕ) where
   -- "Each sequence has one such reading": said of the sequence alone.
   abbrev pub OneReading : Type 0
-  OneReading = (h : Line) (r s : List Request) → Reading own unit h r → Reading own unit h s → r ≡ s
+  OneReading = (h : Line) (r s : List Request) → ReadAs own unit h r → ReadAs own unit h s → r ≡ s
 
   abbrev pub SomeReading : Type 0
-  SomeReading = 1 ≤ placeOf own → (h : Line) → (r : List Request) × Reading own unit h r
+  SomeReading = 1 ≤ placeOf own → (h : Line) → (r : List Request) × ReadAs own unit h r
 
   -- "Each comes once, at its last frame": two complete trains that end at one frame are one, with one start and the same bytes;
   abbrev pub OneStart : Type 0
@@ -141,20 +141,20 @@ module _ (own : Position) (unit : ℕ) where
 
   -- For a reader: any history, then the cutter's frames, one after the other in time, reads as the history's reading and that message.
   abbrev pub ReadBack : Type 0
-  ReadBack = (p : Position) (m : List ℕ) → placeOf p ≢ placeOf own → 1 ≤ length m → length m ≤ 255 → (stamps : ℕ → ℕ) → InTime stamps (framesOf (length m)) → (h : Line) (r : List Request) → Reading own unit h r
-      → Reading own unit (sends own unit p m stamps h (framesOf (length m))) (record { at = size h + (framesOf (length m) - 1); from = p; functional = false; bytes = m } ∷ r)
+  ReadBack = (p : Position) (m : List ℕ) → placeOf p ≢ placeOf own → 1 ≤ length m → length m ≤ 255 → (stamps : ℕ → ℕ) → InTime stamps (frameCount (length m)) → (h : Line) (r : List Request) → ReadAs own unit h r
+      → ReadAs own unit (sends own unit p m stamps h (frameCount (length m))) (record { at = size h + (frameCount (length m) - 1); from = p; functional = false; bytes = m } ∷ r)
 
   -- Such a sequence exists for every message, after any history: sent back to back, all at stamp 0.
   abbrev pub Sendable : Type 0
   Sendable = (p : Position) (m : List ℕ) → placeOf p ≢ placeOf own → 1 ≤ length m → length m ≤ 255 → (h : Line)
-      → SentWhole own unit p m (sends own unit p m (λ k. 0) h (framesOf (length m) - 1)) (cutFrame own unit p m (framesOf (length m) - 1) 0)
+      → SentWhole own unit p m (sends own unit p m (λ k. 0) h (frameCount (length m) - 1)) (cutFrame own unit p m (frameCount (length m) - 1) 0)
 
   -- What the cutter writes is taken apart again, field by field: a single frame, a first frame with L, and consecutive frames with their numbers, each with its bytes and no padding.
   abbrev pub CutTakenApart : Type 0
   CutTakenApart = (p : Position) (m : List ℕ) → placeOf p ≢ placeOf own → (t : ℕ)
       → (1 ≤ length m → length m ≤ 6 → Carries own unit (cutFrame own unit p m 0 t) (Single p false (length m)) (unit ∷ length m ∷ m))
       × (7 ≤ length m → length m ≤ 255 → Carries own unit (cutFrame own unit p m 0 t) (First p (length m)) (unit ∷ 0x10 ∷ length m ∷ take 5 m))
-      × (7 ≤ length m → length m ≤ 255 → (k : ℕ) → suc k < framesOf (length m)
+      × (7 ≤ length m → length m ≤ 255 → (k : ℕ) → suc k < frameCount (length m)
       → Carries own unit (cutFrame own unit p m (suc k) t) (Consecutive p (suc k % 16)) (unit ∷ (0x20 + suc k % 16) ∷ take 6 (drop (5 + 6 * k) m)))
 
 -- The cutter refuses, with 16, just where document 01 says, and then gives no frame.
@@ -196,17 +196,17 @@ module _ (own : Position) (unit : ℕ) (x : Held) (fresh : Fresh own unit x) whe
       go (nothing e n) = rw e (omega arith)
       go (one e s) = rw e (omega arith)
 
-  reads : (h : Line) → Reading own unit h (requests x h)
+  reads : (h : Line) → ReadAs own unit h (requests x h)
   unfolding requests
   reads start = none-yet
   reads (h ▹ f) = go (verdict-at h f) (reads h)
     where
-      go : {r : List Request} → Verdict own unit h f r → Reading own unit h (requests x h) → Reading own unit (h ▹ f) (r ++ requests x h)
+      go : {r : List Request} → Verdict own unit h f r → ReadAs own unit h (requests x h) → ReadAs own unit (h ▹ f) (r ++ requests x h)
       go (nothing e n) y = rw e (no-more y n)
       go (one e s) y = rw e (one-more y s)
 
   pub requests-are-the-reading : RequestsAreTheReading own unit x
-  requests-are-the-reading h r = (λ y. readings-agree (reads h) y, λ e. subst (Reading own unit h) e (reads h))
+  requests-are-the-reading h r = (λ y. readings-agree (reads h) y, λ e. subst (ReadAs own unit h) e (reads h))
 
   pub request-length : RequestLength own unit x
   request-length h f q = go (verdict-at h f)
@@ -221,10 +221,10 @@ module _ (own : Position) (unit : ℕ) (x : Held) (fresh : Fresh own unit x) whe
   unfolding requests
   round-trip p m other some most h f s = ap (λ (r : List Request). r ++ requests x h) (exactness h f p false m .1 (sent-stands own unit p m other some most s))
 
-  pub kept-afterwards : KeptAfterwards own unit x
+  pub stays-afterwards : StaysAfterwards own unit x
   unfolding requests
-  kept-afterwards h _ same = ([], refl)
-  kept-afterwards h _ (later {g} {f} w) = let i = kept-afterwards h g w in (handedAt x g f ++ i .0, ap (λ (r : List Request). handedAt x g f ++ r) (i .1) ∙ sym (append-assoc (handedAt x g f) (i .0) (requests x h)))
+  stays-afterwards h _ same = ([], refl)
+  stays-afterwards h _ (later {g} {f} w) = let i = stays-afterwards h g w in (handedAt x g f ++ i .0, ap (λ (r : List Request). handedAt x g f ++ r) (i .1) ∙ sym (append-assoc (handedAt x g f) (i .0) (requests x h)))
 
 module _ (own : Position) (unit : ℕ) where
   pub one-reading : OneReading own unit

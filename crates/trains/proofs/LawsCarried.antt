@@ -10,7 +10,7 @@ use lib.Seq.{length-take-le, take-take, take-append-add}
 use Rattle.readings.specs.Positions.{placeOf}
 use Rattle.readings.specs.declared.position.Position.{Position}
 use Rattle.receiver.specs.declared.frame.Judged.the-variants.{First}
-use Rattle.receiver.specs.Cuts.{framesOf}
+use Rattle.receiver.specs.Cuts.{frameCount}
 use Rattle.receiver.specs.Frames.{Frame}
 use Rattle.trains.specs.Sequences.{Line, due, seen, Next, Underway, begins, passes, goes-on, Complete, Stands, single, train}
 use Rattle.trains.specs.Terms.{carried, firstFrame, followers, Whole}
@@ -58,7 +58,7 @@ module _ {own : Position} {unit : ℕ} {p : Position} where
         let e = left in
         ap length (x .bytes) ∙ grown (x .last) ∙ (omega arith)
 
-    whole-frames : 2 + length (followers (x .underway)) ≡ framesOf (x .L)
+    whole-frames : 2 + length (followers (x .underway)) ≡ frameCount (x .L)
     unfolding due
     whole-frames =
         let i = bounded (x .underway) in

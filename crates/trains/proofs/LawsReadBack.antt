@@ -12,7 +12,7 @@ use Rattle.readings.specs.declared.position.Position.{Position}
 use Rattle.receiver.specs.declared.frame.Judged.{Judged}
 use Rattle.receiver.specs.declared.frame.Judged.the-variants.{Single, First, Consecutive}
 use Rattle.receiver.specs.Frames.{Frame, judgedOf}
-use Rattle.receiver.specs.Cuts.{framesOf}
+use Rattle.receiver.specs.Cuts.{frameCount}
 use Rattle.receiver.proofs.LawsKinds.{single-is, first-is, consecutive-is}
 use Rattle.receiver.proofs.LawsOnWire.{identifierTo, single-wire, first-wire, consecutive-wire, cut-addressed}
 use Rattle.trains.specs.Sequences.{seen}
@@ -42,7 +42,7 @@ module _ (own : Position) (unit : ℕ) (p : Position) (m : List ℕ) (other : pl
         (first-is own unit (identifierTo p own) (unit ∷ 0x10 ∷ length m ∷ take 5 m) p (length m) .1
         (cut-addressed own p unit (0x10 ∷ length m ∷ take 5 m) other (omega arith), record { high = refl; room = omega arith; named = omega arith; least = long; most = most }))
 
-    pub cut-consecutive : (k t : ℕ) → suc k < framesOf (length m)
+    pub cut-consecutive : (k t : ℕ) → suc k < frameCount (length m)
         → Carries own unit (cutFrame own unit p m (suc k) t) (Consecutive p (suc k % 16)) (unit ∷ (0x20 + suc k % 16) ∷ take 6 (drop (5 + 6 * k) m))
     cut-consecutive k t h =
         let c : List ℕ = take 6 (drop (5 + 6 * k) m) in

@@ -6,10 +6,10 @@ use Prim.Native.Nat.{ℕ}
 use native.Mathlib.Omega.{arith}
 use Rattle.readings.specs.Positions.{placeOf}
 use Rattle.readings.specs.declared.position.Position.{Position}
-use Rattle.receiver.specs.declared.step.Outcome.{Outcome}
-use Rattle.receiver.specs.declared.step.Outcome.the-variants.{Refused, OverLong, Opened, Taken, Single, Train}
+use Rattle.receiver.specs.declared.outcome.Outcome.{Outcome}
+use Rattle.receiver.specs.declared.outcome.Outcome.the-variants.{Refused, OverLong, Opened, Taken, Single, Train}
 use Rattle.receiver.specs.Frames.{Frame}
-use Rattle.receiver.specs.Steps.{nothingTold, outcomeTold}
+use Rattle.receiver.specs.Outcomes.{nothingTold, outcomeTold}
 use Rattle.receiver.specs.Shown.{toldMessage}
 use Rattle.receiver.proofs.LawsShown.{told-shown}
 use Rattle.trains.specs.Sequences.{Line, start, _▹_, size}

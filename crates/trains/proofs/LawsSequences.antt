@@ -9,7 +9,7 @@ use lib.Seq.{length-take-le}
 use Rattle.readings.specs.declared.position.Position.{Position}
 use Rattle.receiver.specs.declared.frame.Judged.the-variants.{First}
 use Rattle.receiver.specs.Frames.{Frame}
-use Rattle.trains.specs.Sequences.{Line, _▹_, physicalOf, due, Request, seen, Passed, elsewhere, too-short, Next, Underway, begins, passes, goes-on, Complete, Stands, single, train, Reading, none-yet, no-more, one-more}
+use Rattle.trains.specs.Sequences.{Line, _▹_, physicalOf, due, Request, seen, Passed, elsewhere, too-short, Next, Underway, begins, passes, goes-on, Complete, Stands, single, train, ReadAs, none-yet, no-more, one-more}
 use Rattle.receiver.proofs.LawsFrames.{fair}
 use Rattle.trains.specs.Terms.{Within, same, later, origin, Rests}
 
@@ -104,7 +104,7 @@ module _ {own : Position} {unit : ℕ} where
       record { from = sym s; functional = cc; bytes = same-train x (subst (λ (r : Position). Complete own unit r h f n) s y) .0 }
 
   -- ---- one reading
-  pub readings-agree : {h : Line} {r s : List Request} → Reading own unit h r → Reading own unit h s → r ≡ s
+  pub readings-agree : {h : Line} {r s : List Request} → ReadAs own unit h r → ReadAs own unit h s → r ≡ s
   readings-agree none-yet none-yet = refl
   readings-agree (no-more x n) (no-more y m) = readings-agree x y
   readings-agree (no-more x n) (one-more y s) = absurd (n _ _ _ s)

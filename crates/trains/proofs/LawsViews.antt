@@ -15,18 +15,17 @@ use Rattle.readings.specs.declared.position.Position.{Position}
 use Rattle.receiver.specs.declared.reception.Reception.{Reception}
 use Rattle.receiver.specs.declared.frame.Judged.{Judged}
 use Rattle.receiver.specs.declared.frame.Judged.the-variants.{Refused, Single, First, OverLong, Consecutive}
-use Rattle.receiver.specs.declared.step.Step.{Step}
-use Rattle.receiver.specs.declared.step.Outcome.{Outcome}
-use Rattle.receiver.specs.declared.step.Outcome.the-variants as outcome
-use Rattle.receiver.specs.Receptions.{closed, openWith}
+use Rattle.receiver.specs.declared.outcome.Outcome.{Outcome}
+use Rattle.receiver.specs.declared.outcome.Outcome.the-variants as outcome
+use Rattle.receiver.specs.Receptions.{closed, openWith, regionAt}
 use Rattle.receiver.specs.Frames.{Frame}
-use Rattle.receiver.specs.Steps.{regionAt, shut, followed, stepOf, writtenBy}
+use Rattle.receiver.specs.Steps.{Step, closing, followed, stepOf, writtenBy}
 use Rattle.trains.specs.Sequences.{Line, _▹_, size, physicalOf, due, Request, seen, elsewhere, too-short, Next, Underway, begins, passes, goes-on, Complete, Stands, single, train}
 use Rattle.trains.specs.Runs.{handed}
 use Rattle.receiver.proofs.LawsFrames.{fair}
 use Rattle.receiver.proofs.LawsFollowed.{consecutive-step, nothing-open, followed-short, followed-wrong, followed-late, followed-on, followed-last}
 use Rattle.receiver.proofs.LawsSteps.{region-fits}
-use Rattle.receiver.proofs.LawsGiven.{Gives, kept-gives, shut-gives, stores-gives, physical-gives, over-long-gives, first-gives, shown-single, shown-train}
+use Rattle.receiver.proofs.LawsGiven.{Gives, leaving-gives, closing-gives, stores-gives, physical-gives, over-long-gives, first-gives, shown-single, shown-train}
 use Rattle.trains.specs.Terms.{Rests, Ends, by-single, by-first, by-over-long, by-number, by-lateness, Fate, passed-over, taken, completes, ended, Follows}
 use Rattle.trains.proofs.LawsSequences.{grown, bounded}
 use Rattle.trains.proofs.LawsFates.{Mine, a-single, a-first, an-over-long, a-consecutive, fate, rests-on, follows}
@@ -123,16 +122,16 @@ module _ (own : Position) (unit : ℕ) where
       advance-short l =
           let d = is-due in
           subst (Advances p h f buffer) (sym (followed-short L k t p n (length (f .bytes)) (f .stamp) is-open (omega arith)))
-          (advances-by (kept-gives buffer (f .bytes) (openWith L k t) (outcome.Refused (refusal 9))) (receiving refl (passes w (too-short is l)))
+          (advances-by (leaving-gives buffer (f .bytes) (openWith L k t) (outcome.Refused (refusal 9))) (receiving refl (passes w (too-short is l)))
           (nothing refl (only-train is (follows w (passed-over (too-short is l)) .1))))
 
       not-first : (M : ℕ) → seen own unit f ≡ First p M → ⊥
       not-first M e = let z : _≡_ {A = ℕ} 0 1 = cc in omega arith
 
-      ended-so : (why : Refusal) → Ends own unit p L k t b f → Advances p h f buffer (shut (outcome.Refused why))
+      ended-so : (why : Refusal) → Ends own unit p L k t b f → Advances p h f buffer (closing (outcome.Refused why))
       unfolding handed Follows
       ended-so why e =
-          advances-by (shut-gives buffer (f .bytes) (outcome.Refused why)) (resting refl (λ M i s c y. not-first M (follows w (ended e) .0 M i s c y .1)))
+          advances-by (closing-gives buffer (f .bytes) (outcome.Refused why)) (resting refl (λ M i s c y. not-first M (follows w (ended e) .0 M i s c y .1)))
           (nothing refl (only-train is (follows w (ended e) .1)))
 
       advance-ended : Ends own unit p L k t b f → Advances p h f buffer step
@@ -188,7 +187,7 @@ module _ (own : Position) (unit : ℕ) where
     unfolding handed
     advance-consecutive n is (resting e x) =
         subst (Advances p h f buffer) (sym (ap (λ (c : Reception). followed c p n (length (f .bytes)) (f .stamp)) e ∙ nothing-open p n (length (f .bytes)) (f .stamp)))
-        (advances-by (kept-gives buffer (f .bytes) _ _) (resting refl (rests-on x (λ M (d : seen own unit f ≡ First p M). let z : _≡_ {A = ℕ} 0 1 = cc in omega arith)))
+        (advances-by (leaving-gives buffer (f .bytes) _ _) (resting refl (rests-on x (λ M (d : seen own unit f ≡ First p M). let z : _≡_ {A = ℕ} 0 1 = cc in omega arith)))
         (nothing refl (only-train is (λ m (y : Complete own unit p h f m). x _ _ _ _ (y .underway)))))
     advance-consecutive n is (receiving {L} {k} {t} e w) =
         subst (λ (c : Reception). Advances p h f buffer (followed c p n (length (f .bytes)) (f .stamp))) (sym e) (advance-train L k t n is w (fate own unit p L k t _ f))

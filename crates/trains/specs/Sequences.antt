@@ -89,8 +89,8 @@ module _ (own : Position) (unit : ℕ) where
     train : functional ≡ false → Complete p h f m → Stands p functional h f m
 
   -- r are the requests that stand in the sequence, the latest first, each with the place of its last frame
-  pub data Reading : Line → List Request → Type 0 where
-    none-yet : Reading start []
-    no-more : {h : Line} {f : Frame} {r : List Request} → Reading h r → ((p : Position) (functional : Bool) (m : List ℕ) → Stands p functional h f m → ⊥) → Reading (h ▹ f) r
-    one-more : {h : Line} {f : Frame} {r : List Request} {p : Position} {functional : Bool} {m : List ℕ} → Reading h r → Stands p functional h f m
-        → Reading (h ▹ f) (record { at = size h; from = p; functional = functional; bytes = m } ∷ r)
+  pub data ReadAs : Line → List Request → Type 0 where
+    none-yet : ReadAs start []
+    no-more : {h : Line} {f : Frame} {r : List Request} → ReadAs h r → ((p : Position) (functional : Bool) (m : List ℕ) → Stands p functional h f m → ⊥) → ReadAs (h ▹ f) r
+    one-more : {h : Line} {f : Frame} {r : List Request} {p : Position} {functional : Bool} {m : List ℕ} → ReadAs h r → Stands p functional h f m
+        → ReadAs (h ▹ f) (record { at = size h; from = p; functional = functional; bytes = m } ∷ r)

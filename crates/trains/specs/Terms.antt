@@ -15,7 +15,7 @@ use Rattle.readings.specs.declared.position.Vehicle.the-variants.{At}
 use Rattle.receiver.specs.declared.frame.Judged.the-variants.{Refused, Single, First, OverLong, Consecutive}
 use Rattle.receiver.specs.Frames.{Frame}
 use Rattle.receiver.specs.Steps.{gapOf}
-use Rattle.receiver.specs.Cuts.{framesOf, cutOf, onWire}
+use Rattle.receiver.specs.Cuts.{frameCount, cutOf, onWire}
 use Rattle.trains.specs.Sequences.{Line, start, _▹_, physicalOf, due, seen, Elsewhere, Passed, Next, Underway, begins, passes, goes-on, Complete}
 
 -- ---- sequences
@@ -97,7 +97,7 @@ module _ (own : Position) (unit : ℕ) where
     pub least : 7 ≤ a .L
     pub most : a .L ≤ 255
     pub exact : length m ≡ a .L
-    pub frames : 2 + length (followers (a .underway)) ≡ framesOf (a .L)
+    pub frames : 2 + length (followers (a .underway)) ≡ frameCount (a .L)
     pub bytes : m ≡ take (a .L) (take 5 (drop 3 (firstFrame (a .underway) .bytes)) ++ carried (f ∷ followers (a .underway)))
 
 module _ (own : Position) (unit : ℕ) (p : Position) (m : List ℕ) where
@@ -113,8 +113,8 @@ module _ (own : Position) (unit : ℕ) (p : Position) (m : List ℕ) where
 
   -- all frames of m are sent so, and f is the last
   pub data SentWhole : Line → Frame → Type 0 where
-    alone : {h : Line} {t : ℕ} → framesOf (length m) ≡ 1 → SentWhole h (cutFrame 0 t)
-    last-sent : {h : Line} {k t u : ℕ} → Sent h k t → gapOf u t ≤ 150 → framesOf (length m) ≡ suc (suc k) → SentWhole h (cutFrame (suc k) u)
+    alone : {h : Line} {t : ℕ} → frameCount (length m) ≡ 1 → SentWhole h (cutFrame 0 t)
+    last-sent : {h : Line} {k t u : ℕ} → Sent h k t → gapOf u t ≤ 150 → frameCount (length m) ≡ suc (suc k) → SentWhole h (cutFrame (suc k) u)
 
   -- h, and then the first k frames of m, one right after the other, at these stamps
   unfoldable pub sends : (ℕ → ℕ) → Line → ℕ → Line

@@ -2,8 +2,8 @@
 use mathlib.Core.Path.{refl, sym, ap, _∙_}
 use borrow.Author.Tests.{eq-eqb, ne-eqb}
 use Rattle.identifiers.proofs.LawsChoice.{taken, passed}
-use Rattle.receiver.specs.Cuts.{controlOf, cutTold, noFrame}
-use Rattle.receiver.specs.declared.step.Control.the-variants.{Continue, Overflow}
+use Rattle.receiver.specs.Cuts.{flowControlOf, cutTold, noFrame}
+use Rattle.receiver.specs.declared.outcome.Control.the-variants.{Continue, Overflow}
 use Rattle.receiver.proofs.LawsCutter.{none-told}
 use Rattle.castanhiu.specs.Numbers.{controlNumbered}
 use Rattle.castanhiu.proofs.frames.castanhiu_flow_control.Statement.{statement}
@@ -11,13 +11,13 @@ use Rattle.castanhiu.proofs.frames.castanhiu_flow_control.Tie as tie
 
 returns : tie.Need-returns
 unfolding controlNumbered
-returns c = (c .told .ensures) ∙ ap cutTold (taken {x = controlOf Continue _ _ _} _ (eq-eqb _ 1 (c .before .before .if1 .taken)) (c .before .flow-control .ensures))
+returns c = (c .told .ensures) ∙ ap cutTold (taken {x = flowControlOf Continue _ _ _} _ (eq-eqb _ 1 (c .before .before .if1 .taken)) (c .before .flow-control .ensures))
 
 returns-2 : tie.Need-returns-2
 unfolding controlNumbered
 returns-2 c =
     (c .told2 .ensures) ∙ ap cutTold (passed _ (ne-eqb _ _ (c .before .before .before .if1 .left))
-    (taken {x = controlOf Overflow _ _ _} _ (eq-eqb _ 2 (c .before .before .if2 .taken)) (c .before .flow-control2 .ensures)))
+    (taken {x = flowControlOf Overflow _ _ _} _ (eq-eqb _ 2 (c .before .before .if2 .taken)) (c .before .flow-control2 .ensures)))
 
 returns-3 : tie.Need-returns-3
 unfolding controlNumbered

@@ -1,7 +1,7 @@
 -- `offer` meets its contract: the node and the buffer are those of `receive`.
 use mathlib.Core.Path.{ap}
 use borrow.Author.Needs.{needs}
-use Rattle.receiver.specs.declared.step.Received.{Received}
+use Rattle.receiver.specs.declared.receiving.Received.{Received}
 use Rattle.frame_examples.proofs.offers.offer.Statement.{statement}
 use Rattle.frame_examples.proofs.offers.offer.Tie as tie
 

@@ -1,7 +1,7 @@
 -- `hear` meets its contract: what `receive` says of the node and the buffer, and what is shown of its outcome.
 use mathlib.Core.Path.{sym, ap}
 use borrow.Author.Needs.{needs}
-use Rattle.receiver.specs.declared.step.Received.{Received}
+use Rattle.receiver.specs.declared.receiving.Received.{Received}
 use Rattle.frame_examples.proofs.trains.hear.Statement.{statement}
 use Rattle.frame_examples.proofs.trains.hear.Tie as tie
 

@@ -13,17 +13,17 @@ returns : tie.Need-returns
 unfolding cutOf
 returns c =
     let at-at = c .before .before .before in
-    (c .refused .ensures) ∙ sym (none-else _ _ (between-first _ _ _ (sym (at-at .at .ensures) ∙ (c .before .enum-told .given .1))))
+    (c .no-frame .ensures) ∙ sym (none-else _ _ (between-first _ _ _ (sym (at-at .at .ensures) ∙ (c .before .enum-told .given .1))))
 
 returns-2 : tie.Need-returns-2
 unfolding cutOf
 returns-2 c =
     let at-at2 = c .before .before .before in
-    (c .refused2 .ensures) ∙ sym (none-else _ _ (between-second _ _ _ (sym (at-at2 .at2 .ensures) ∙ (c .before .enum-told2 .given .1))))
+    (c .no-frame2 .ensures) ∙ sym (none-else _ _ (between-second _ _ _ (sym (at-at2 .at2 .ensures) ∙ (c .before .enum-told2 .given .1))))
 
 returns-3 : tie.Need-returns-3
 unfolding cutOf
-returns-3 c = taken _ (sym (or-is _ _) ∙ rw (c .before .before .frame-count .ensures) at (c .before .if1 .taken)) (c .refused3 .ensures)
+returns-3 c = taken _ (sym (or-is _ _) ∙ rw (c .before .before .frame-count .ensures) at (c .before .if1 .taken)) (c .no-frame3 .ensures)
 
 piece-requires : tie.Need-piece-requires
 piece-requires c κs =

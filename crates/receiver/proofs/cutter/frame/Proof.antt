@@ -21,7 +21,7 @@ returns c =
     let at-write = c .before .before .before in
     let at-address2 = at-write .before in
     let at-address = at-address2 .before in
-    (c .refused .ensures) ∙ ap (framedAs _ _) (sym (c .before .enum-told .given .1) ∙ wrote _ _ _ _ (at-address .address .ensures) (at-address2 .address2 .ensures) (at-write .write .ensures))
+    (c .no-frame .ensures) ∙ ap (framedAs _ _) (sym (c .before .enum-told .given .1) ∙ wrote _ _ _ _ (at-address .address .ensures) (at-address2 .address2 .ensures) (at-write .write .ensures))
 
 returns-2 : tie.Need-returns-2
 unfolding framed framedAs

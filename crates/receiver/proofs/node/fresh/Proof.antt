@@ -9,16 +9,16 @@ returns : tie.Need-returns
 unfolding freshOf madeAt
 returns c =
     let at-trailer = c .before .before .before in
-    let at-all-closed = at-trailer .before in
-    let entry = at-all-closed .before in
-    (c .refused .ensures) ∙ rw (at-all-closed .all-closed .ensures) (ap (madeAt (freshNode (entry .args .own) (entry .args .unit))) (sym (sym (at-trailer .trailer .ensures) ∙ (c .before .enum-told2 .given .1))))
+    let at-fresh-node = at-trailer .before in
+    let entry = at-fresh-node .before in
+    (c .unchanged .ensures) ∙ rw (at-fresh-node .fresh-node .ensures) (ap (madeAt (freshNode (entry .args .own) (entry .args .unit))) (sym (sym (at-trailer .trailer .ensures) ∙ (c .before .enum-told2 .given .1))))
 
 returns-2 : tie.Need-returns-2
 unfolding freshOf madeAt done
 returns-2 c =
-    let at-all-closed = c .before .before .before in
-    let entry = at-all-closed .before in
-    rw (at-all-closed .all-closed .ensures) (ap (madeAt (freshNode (entry .args .own) (entry .args .unit))) (sym (sym (c .before .before .trailer .ensures) ∙ (c .enum-told .given .1))))
+    let at-fresh-node = c .before .before .before in
+    let entry = at-fresh-node .before in
+    rw (at-fresh-node .fresh-node .ensures) (ap (madeAt (freshNode (entry .args .own) (entry .args .unit))) (sym (sym (c .before .before .trailer .ensures) ∙ (c .enum-told .given .1))))
 
 pub fresh-spec : {M : Type 1} → statement M
 fresh-spec =

@@ -5,7 +5,7 @@ use Rattle.receiver.proofs.node.start.Tie as tie
 
 returns : tie.Need-returns
 unfolding startOf
-returns c = (c .all-closed .ensures)
+returns c = (c .fresh-node .ensures)
 
 pub start-spec : {M : Type 1} → statement M
 start-spec = tie.close (tie.spec (λ c κs. tt) returns)

@@ -8,14 +8,14 @@ use Rattle.receiver.proofs.node.take_address.Statement.{statement}
 use Rattle.receiver.proofs.node.take_address.Tie as tie
 
 returns : tie.Need-returns
-returns c = (c .refused .ensures) ∙ sym (address-1 _ _ (sym (c .before .before .is-sound .ensures) ∙ not-true _ (c .before .if1 .taken)))
+returns c = (c .unchanged .ensures) ∙ sym (address-1 _ _ (sym (c .before .before .is-sound .ensures) ∙ not-true _ (c .before .if1 .taken)))
 
 returns-2 : tie.Need-returns-2
 returns-2 c =
     let at-after = c .before .before .before in
     let at-if1 = at-after .before in
     let sound = sym (at-if1 .before .is-sound .ensures) ∙ not-false _ (at-if1 .if1 .left) in
-    (c .refused2 .ensures) ∙ sym (address-15 _ _ sound _ (sym (at-after .after .ensures) ∙ (c .before .enum-told .given .1)))
+    (c .unchanged2 .ensures) ∙ sym (address-15 _ _ sound _ (sym (at-after .after .ensures) ∙ (c .before .enum-told .given .1)))
 
 returns-3 : tie.Need-returns-3
 unfolding done
@@ -40,7 +40,7 @@ returns-4 c =
     let sound = sym (at-if1 .before .is-sound .ensures) ∙ not-false _ (at-if1 .if1 .left) in
     let after = sym (at-after .after .ensures) ∙ (at-position .position .given .1) in
     let another = rw (at-place .place .ensures) at (c .before .if2 .left) in
-    rw ((c .all-closed .ensures), (at-place .place .ensures)) (sym (new-position (entry .args .node) (entry .args .source) sound _ after another))
+    rw ((c .fresh-node .ensures), (at-place .place .ensures)) (sym (new-position (entry .args .node) (entry .args .source) sound _ after another))
 
 pub take-address-spec : {M : Type 1} → statement M
 take-address-spec =

@@ -5,11 +5,10 @@ use Prim.Native.Nat.{ℕ}
 use types.Run.{OneOf, miss}
 use denote.Enum.Declared.{tagOf}
 use borrow.Author.Needs.{needs}
-use Rattle.receiver.specs.declared.step.Outcome.{Outcome}
-use Rattle.receiver.specs.declared.step.Outcome.the-variants.{Refused, OverLong, Opened, Taken, Single, Train}
-use Rattle.receiver.specs.Steps.{regionAt}
+use Rattle.receiver.specs.declared.outcome.Outcome.{Outcome}
+use Rattle.receiver.specs.declared.outcome.Outcome.the-variants.{Refused, OverLong, Opened, Taken, Single, Train}
 use Rattle.receiver.specs.Shown.{shownOf}
-use Rattle.receiver.proofs.step.Outcome.{the-type}
+use Rattle.receiver.proofs.outcome.Outcome.{the-type}
 use Rattle.receiver.proofs.show.shown.Statement.{statement}
 use Rattle.receiver.proofs.show.shown.Tie as tie
 
@@ -18,10 +17,10 @@ unfolding shownOf
 returns c = (c .part .ensures) ∙ ap (shownOf _ _) (sym (c .before .before .outcome .given .1))
 
 returns-2 : tie.Need-returns-2
-unfolding shownOf regionAt
+unfolding shownOf
 returns-2 c =
     let at-outcome2 = c .before .before .before in
-    (c .part2 .ensures) ∙ rw (c .before .place .ensures) (ap (shownOf _ _) (sym (at-outcome2 .outcome2 .given .1)))
+    (c .part2 .ensures) ∙ rw (c .before .region .ensures .0) (ap (shownOf _ _) (sym (at-outcome2 .outcome2 .given .1)))
 
 nothing-shown : (bytes buffer : List ℕ) (o : Outcome) → OneOf (0 ∷ 1 ∷ 2 ∷ 3 ∷ []) (tagOf the-type o) → [] ≡ shownOf bytes buffer o
 unfolding shownOf
@@ -44,8 +43,6 @@ shown-spec =
     (λ c κs. tt)
     (λ c. search needs)
     (λ c κs. tt)
-    (λ c. search needs)
-    (λ c. search needs)
     (λ c. search needs)
     (λ c κs. tt)
     (λ c κs. tt)

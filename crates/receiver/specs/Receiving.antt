@@ -1,0 +1,68 @@
+-- One frame offered to a node: the reception that it moves, the next node, and the buffer afterwards (document 01, "Frames and trains").
+use mathlib.Core.List.{List}
+use Prim.Native.Nat.{ℕ}
+use lib.Dec.{eqb}
+use lib.ListN.{length}
+use Rattle.identifiers.specs.Choice.{pick, both}
+use Rattle.identifiers.specs.Refusals.{refusal}
+use Rattle.readings.specs.Positions.{placeOf, trailerAt}
+use Rattle.readings.specs.declared.position.Vehicle.{Vehicle}
+use Rattle.readings.specs.declared.position.Vehicle.the-variants.{At, NoVehicle}
+use Rattle.receiver.specs.declared.node.Node.{Node}
+use Rattle.receiver.specs.declared.frame.Judged.{Judged}
+use Rattle.receiver.specs.declared.frame.Judged.the-variants.{Refused, Single, First, OverLong, Consecutive}
+use Rattle.receiver.specs.declared.outcome.Outcome.the-variants as outcome
+use Rattle.receiver.specs.declared.receiving.Received.{Received}
+use Rattle.receiver.specs.declared.receiving.Moved.{Moved}
+use Rattle.receiver.specs.Receptions.{bufferLength}
+use Rattle.receiver.specs.Nodes.{receptionAt, withReception, soundNode}
+use Rattle.receiver.specs.Frames.{judgedOf}
+use Rattle.receiver.specs.Steps.{Step, stepOf, writtenBy}
+
+-- the place of the vehicle whose reception a frame is about; 0 where it is refused by itself
+abbrev pub judgedPlace : Judged → ℕ
+judgedPlace (Refused why) = 0
+judgedPlace (Single from functional L) = placeOf from
+judgedPlace (First from L) = placeOf from
+judgedPlace (OverLong from) = placeOf from
+judgedPlace (Consecutive from number) = placeOf from
+
+-- 1 "lent state breaks its rules, own position not 1..5, .. or reception buffer not 1,536": otherwise the own position
+unfoldable pub ownOf : Node → ℕ → Vehicle
+ownOf n room = pick (both (soundNode n) (eqb room bufferLength)) (trailerAt (n .own)) NoVehicle
+
+-- 1 where there is no own position, else what the frame is by itself
+unfoldable pub judgedAt : Node → ℕ → List ℕ → Vehicle → Judged
+judgedAt n identifier bytes NoVehicle = Refused (refusal 1)
+judgedAt n identifier bytes (At own) = judgedOf own (n .unit) identifier bytes
+
+unfoldable pub judgedBy : Node → List ℕ → ℕ → List ℕ → Judged
+judgedBy n buffer identifier bytes = judgedAt n identifier bytes (ownOf n (length buffer))
+
+-- what a frame so judged does to its vehicle's reception
+unfoldable pub stepBy : Node → Judged → List ℕ → ℕ → Step
+stepBy n j bytes stamp = stepOf (receptionAt n (judgedPlace j)) j (length bytes) stamp
+
+-- the one reception that it moves, its place, and the outcome
+unfoldable pub movedBy : Node → Judged → List ℕ → ℕ → Moved
+movedBy n j bytes stamp =
+    let s = stepBy n j bytes stamp in
+    record { place = judgedPlace j; reception = s .reception; outcome = s .outcome }
+
+-- 1 moves none: the first stands as it is
+abbrev pub unmovedAs : Node → Moved
+unmovedAs n = record { place = 0; reception = receptionAt n 0; outcome = outcome.Refused (refusal 1) }
+
+unfoldable pub movedOf : Node → List ℕ → ℕ → List ℕ → ℕ → Moved
+movedOf n buffer identifier bytes stamp = movedBy n (judgedBy n buffer identifier bytes) bytes stamp
+
+-- the node with that reception stored
+unfoldable pub storedIn : Node → Moved → Received
+storedIn n m = record { node = withReception n (m .place) (m .reception); outcome = m .outcome }
+
+unfoldable pub receivedOf : Node → List ℕ → ℕ → List ℕ → ℕ → Received
+receivedOf n buffer identifier bytes stamp = storedIn n (movedOf n buffer identifier bytes stamp)
+
+-- "An accepted frame of a train writes its message bytes there, and nothing else is written"
+unfoldable pub bufferAfter : Node → List ℕ → ℕ → List ℕ → ℕ → List ℕ
+bufferAfter n buffer identifier bytes stamp = writtenBy buffer (stepBy n (judgedBy n buffer identifier bytes) bytes stamp) bytes
