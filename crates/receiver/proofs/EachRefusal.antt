@@ -1,17 +1,14 @@
 -- Every refusal of a frame that is offered to a node, exactly where document 01 gives it: 2 to 10 of the frame by itself, and 12, 9, 13, 14 of a consecutive frame.
 use mathlib.Core.Path.{_≡_, refl, sym, ap, _∙_}
-use mathlib.Core.Bool.{Bool, true, false}
 use mathlib.Core.List.{List}
 use mathlib.Core.Logic.{_↔_}
 use Prim.Native.Nat.{ℕ, _≤_}
 use native.Mathlib.Omega.{arith}
 use lib.ListN.{length}
-use Rattle.identifiers.specs.Choice.{pick}
 use Rattle.identifiers.specs.Refusals.{numberOf}
 use Rattle.identifiers.specs.declared.refusal.Refusal.{Refusal}
 use Rattle.readings.specs.Positions.{placeOf}
 use Rattle.readings.specs.declared.position.Position.{Position}
-use Rattle.receiver.specs.declared.reception.Reception.{Reception}
 use Rattle.receiver.specs.declared.node.Node.{Node}
 use Rattle.receiver.specs.declared.frame.Judged.{Judged}
 use Rattle.receiver.specs.declared.frame.Judged.the-variants as judged
@@ -20,8 +17,8 @@ use Rattle.receiver.specs.declared.outcome.Outcome.{Outcome}
 use Rattle.receiver.specs.declared.outcome.Outcome.the-variants.{Refused, OverLong, Opened, Single}
 use Rattle.receiver.specs.Nodes.{receptionAt}
 use Rattle.receiver.specs.Frames.{judgedOf}
-use Rattle.receiver.specs.Steps.{leaving, closing, opened, stepOf}
-use Rattle.receiver.specs.Receiving.{judgedPlace, receivedOf}
+use Rattle.receiver.specs.Steps.{leaving, closing, opened, stepOf, judgedPlace}
+use Rattle.receiver.specs.Receiving.{receivedOf}
 use Rattle.receiver.specs.Names.{Refuses, by-itself, by-reception}
 use Rattle.receiver.proofs.LawsFrames.{fair, refused-number}
 use Rattle.receiver.proofs.LawsKinds.{consecutive-is}
@@ -36,18 +33,13 @@ module _ (own : Position) (n : Node) (identifier : ℕ) (bytes : List ℕ) (stam
   outcomeBy j = stepOf (receptionAt n (judgedPlace j)) j (length bytes) stamp .outcome
 
   -- ---- what the step of a judged frame refuses: 2 to 10 and 12 to 14, each where it is due
-  not-single : (r : Reception) (p : Position) (functional : Bool) (L : ℕ) (why : Refusal) → pick functional (leaving r (Single p functional L)) (closing (Single p functional L)) .outcome ≡ Refused why → ⊥
-  unfolding pick closing leaving
-  not-single r p true L why = λ (e : Single p true L ≡ Refused why). let z : _≡_ {A = ℕ} 0 1 = cc in omega arith
-  not-single r p false L why = λ (e : Single p false L ≡ Refused why). let z : _≡_ {A = ℕ} 0 1 = cc in omega arith
-
   which : (why : Refusal) (j : Judged) → frame ≡ j → outcomeBy j ≡ Refused why → Refuses own n identifier bytes stamp why
   unfolding stepOf opened closing leaving
   which why (judged.Refused other) f =
       λ (e : Refused other ≡ Refused why).
       let same : other ≡ why = cc in
       by-itself (refused-exactly own (n .unit) identifier bytes why .0 (f ∙ ap judged.Refused same))
-  which why (judged.Single p functional L) f = λ e. absurd (not-single _ p functional L why e)
+  which why (judged.Single p functional L) f = λ (e : Single p functional L ≡ Refused why). let z : _≡_ {A = ℕ} 0 1 = cc in absurd (omega arith)
   which why (judged.First p L) f = λ (e : Opened p ≡ Refused why). let z : _≡_ {A = ℕ} 0 1 = cc in absurd (omega arith)
   which why (judged.OverLong p) f = λ (e : OverLong p ≡ Refused why). let z : _≡_ {A = ℕ} 0 1 = cc in absurd (omega arith)
   which why (judged.Consecutive p number) f =

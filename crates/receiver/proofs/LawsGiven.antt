@@ -53,7 +53,7 @@ module _ (buffer bytes : List ℕ) where
       -- "A physical single frame, .. an over-long one .. ends the open reception"
       pub physical-gives : (L : ℕ) → Gives buffer bytes (stepOf r (judged.Single from false L) count stamp) closed (Single from false L) buffer
       unfolding stepOf pick
-      physical-gives L = closing-gives (Single from false L)
+      physical-gives L = leaving-gives closed (Single from false L)
 
       pub over-long-gives : Gives buffer bytes (stepOf r (judged.OverLong from) count stamp) closed (OverLong from) buffer
       unfolding stepOf

@@ -16,11 +16,11 @@ use Rattle.readings.specs.declared.position.Vehicle.the-variants.{At, NoVehicle
 use Rattle.receiver.specs.declared.node.Node.{Node}
 use Rattle.receiver.specs.declared.frame.Judged.{Judged}
 use Rattle.receiver.specs.declared.frame.Judged.the-variants as judged
-use Rattle.receiver.specs.declared.receiving.Moved.{Moved}
+use Rattle.receiver.specs.declared.steps.Moved.{Moved}
 use Rattle.receiver.specs.declared.outcome.Outcome.the-variants.{Refused}
 use Rattle.receiver.specs.Frames.{judgedOf}
-use Rattle.receiver.specs.Steps.{Step, stepOf, writtenBy, leaving}
-use Rattle.receiver.specs.Receiving.{judgedPlace, stepBy, ownOf, judgedAt, judgedBy, movedBy, movedOf, storedIn, receivedOf, unmovedAs, bufferAfter}
+use Rattle.receiver.specs.Steps.{Step, stepOf, writtenBy, leaving, judgedPlace}
+use Rattle.receiver.specs.Receiving.{stepBy, ownOf, judgedAt, judgedBy, movedBy, movedOf, storedIn, receivedOf, unmovedAs, bufferAfter}
 use Rattle.receiver.specs.Nodes.{receptionAt, withReception, soundNode, soundInFront, soundBehind}
 use Rattle.receiver.proofs.LawsRules.{halves}
 use Rattle.receiver.proofs.LawsSteps.{place-judged, leaving-writes}

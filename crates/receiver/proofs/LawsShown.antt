@@ -5,7 +5,7 @@ use mathlib.Core.List.{List}
 use Prim.Native.Nat.{ℕ, _+_, _*_, _≤_}
 use native.Mathlib.Omega.{arith}
 use lib.Dec.{ltb}
-use lib.ListN.{length, take, drop, length-drop}
+use lib.ListN.{length, drop, length-drop}
 use lib.Seq.{length-take-le}
 use Rattle.identifiers.specs.Choice.{pick}
 use Rattle.identifiers.specs.declared.refusal.Refusal.{Refusal}
@@ -24,8 +24,8 @@ use Rattle.receiver.specs.declared.outcome.Outcome.the-variants.{Refused
 use Rattle.receiver.specs.Receptions.{closed, bufferLength, regionAt}
 use Rattle.receiver.specs.Frames.{judgedOf}
 use Rattle.receiver.specs.Outcomes.{dueOf, dueNumber, nothingTold, outcomeTold}
-use Rattle.receiver.specs.Steps.{Step, leaving, closing, opened, leftOf, takenStep, followed, stepOf, writtenBy}
-use Rattle.receiver.specs.Receiving.{judgedPlace, stepBy, ownOf, judgedAt, judgedBy, movedBy, movedOf, storedIn, receivedOf, bufferAfter}
+use Rattle.receiver.specs.Steps.{Step, leaving, closing, opened, leftOf, takenStep, followed, behindSingle, stepOf, writtenBy, judgedPlace}
+use Rattle.receiver.specs.Receiving.{stepBy, ownOf, judgedAt, judgedBy, movedBy, movedOf, storedIn, receivedOf, bufferAfter}
 use Rattle.receiver.specs.Nodes.{receptionAt}
 use Rattle.receiver.specs.Shown.{shownOf, toldMessage}
 use Rattle.receiver.proofs.LawsFrames.{Fair, fair}
@@ -71,16 +71,15 @@ module _ (bytes buffer : List ℕ) (room : length buffer ≡ 1536) (r : Receptio
       by-test _ (λ a. shows-refused r _)
       (λ a. by-test _ (λ b. shows-refused r _) (λ b. by-test _ (λ d. by-test _ (λ e. shows-refused closed _) (λ e. shows-taken from)) (λ d. shows-refused closed _)))
 
-  shows-single : (from : Position) (functional : Bool) (L : ℕ) → 2 + L ≤ length bytes → Holds (Shows bytes buffer) (pick functional (leaving r (Single from functional L)) (closing (Single from functional L)))
-  unfolding closing leaving shownOf outcomeTold
+  shows-single : (from : Position) (functional : Bool) (L : ℕ) → 2 + L ≤ length bytes → Shows bytes buffer (leaving (behindSingle r functional) (Single from functional L))
+  unfolding leaving shownOf outcomeTold
   shows-single from functional L h =
-      let e : length (take L (drop 2 bytes)) ≡ L = length-take-le L (drop 2 bytes) (rw length-drop (omega arith)) in
-      by-test functional (λ a. record { holds = e }) (λ a. record { holds = e })
+      length-take-le L (drop 2 bytes) (rw length-drop (omega arith))
 
   shows-step : (own : Position) (unit identifier : ℕ) (j : Judged) → Fair own unit identifier bytes j → Shows bytes buffer (stepOf r j (length bytes) stamp)
   unfolding stepOf opened closing leaving shownOf outcomeTold nothingTold
   shows-step own unit identifier (judged.Refused why) f = refl
-  shows-step own unit identifier (judged.Single from functional L) f = shows-single from functional L (f .1 .room) .holds
+  shows-step own unit identifier (judged.Single from functional L) f = shows-single from functional L (f .1 .room)
   shows-step own unit identifier (judged.First from L) f = refl
   shows-step own unit identifier (judged.OverLong from) f = refl
   shows-step own unit identifier (judged.Consecutive from number) f = shows-followed from number .holds

@@ -7,7 +7,6 @@ use Prim.Native.Nat.{ℕ, _+_, _-_, _*_, _≤_, _<_, min}
 use native.Mathlib.Omega.{arith}
 use borrow.Author.Tests.{ltb-true, ltb-false, eqb-false}
 use lib.ListN.{length}
-use Rattle.identifiers.specs.Choice.{pick}
 use Rattle.identifiers.proofs.LawsChoice.{Holds, by-test}
 use Rattle.identifiers.proofs.LawsBytes.{written-none, length-written}
 use Rattle.readings.specs.Positions.{placeOf}
@@ -21,8 +20,8 @@ use Rattle.receiver.specs.declared.frame.Judged.the-variants as judged
 use Rattle.receiver.specs.declared.outcome.Outcome.{Outcome}
 use Rattle.receiver.specs.Receptions.{closed, soundReception, regionAt}
 use Rattle.receiver.specs.Frames.{judgedOf}
-use Rattle.receiver.specs.Steps.{Step, leaving, closing, opened, doneOf, leftOf, takenStep, followed, stepOf, writtenBy}
-use Rattle.receiver.specs.Receiving.{judgedPlace, stepBy, movedBy, storedIn}
+use Rattle.receiver.specs.Steps.{Step, leaving, closing, opened, doneOf, leftOf, takenStep, followed, behindSingle, stepOf, writtenBy, judgedPlace}
+use Rattle.receiver.specs.Receiving.{stepBy, movedBy, storedIn}
 use Rattle.receiver.specs.Nodes.{receptionAt, soundNode}
 use Rattle.receiver.proofs.LawsFrames.{Fair, fair}
 use Rattle.receiver.proofs.LawsRules.{sound-closed, sound-open, open-facts, sound-at, sound-with}
@@ -66,14 +65,14 @@ module _ (r : Reception) (count stamp : ℕ) (h : soundReception r ≡ true) (sh
       (λ f. by-test _ (λ g. by-test _ (λ i. record { holds = closing-fitted _ _ _ }) (λ i. taken-fitted from (eqb-false _ _ e) (ltb-false _ _ f)))
       (λ g. record { holds = closing-fitted _ _ _ })))
 
-  single-fitted : (from : Position) (functional : Bool) (o : Outcome) → Holds (Fitted (placeOf from) count) (pick functional (leaving r o) (closing o))
-  single-fitted from functional o = by-test _ (λ e. record { holds = leaving-fitted _ _ _ _ h }) (λ e. record { holds = closing-fitted _ _ _ })
+  single-fitted : (from : Position) (functional : Bool) (o : Outcome) → Fitted (placeOf from) count (leaving (behindSingle r functional) o)
+  single-fitted from functional o = leaving-fitted _ _ _ o (by-test {P = λ (x : Reception). soundReception x ≡ true} functional (λ e. record { holds = h }) (λ e. record { holds = sound-closed }) .holds)
 
 pub step-fitted : (own : Position) (unit n : ℕ) (r : Reception) (bytes : List ℕ) (stamp : ℕ) (j : Judged) → soundReception r ≡ true → r .length ≤ 255 → Fair own unit n bytes j
     → Fitted (judgedPlace j) (length bytes) (stepOf r j (length bytes) stamp)
 unfolding stepOf opened regionAt
 step-fitted own unit n r bytes stamp (judged.Refused why) h s f = leaving-fitted _ _ _ _ h
-step-fitted own unit n r bytes stamp (judged.Single from functional L) h s f = single-fitted r (length bytes) stamp h s from functional _ .holds
+step-fitted own unit n r bytes stamp (judged.Single from functional L) h s f = single-fitted r (length bytes) stamp h s from functional _
 step-fitted own unit n r bytes stamp (judged.First from L) h s f = record { reads = f .1 .room; begins = λ l. omega arith; ends = omega arith; sound = sound-open L 0 stamp (f .1 .least) (omega (arith, f .1 .least)) }
 step-fitted own unit n r bytes stamp (judged.OverLong from) h s f = closing-fitted _ _ _
 step-fitted own unit n r bytes stamp (judged.Consecutive from number) h s f = followed-fitted r (length bytes) stamp h s from number .holds

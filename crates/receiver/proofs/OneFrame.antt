@@ -27,8 +27,8 @@ use Rattle.receiver.specs.declared.outcome.Outcome.the-variants.{Refused
 use Rattle.receiver.specs.Receptions.{closed}
 use Rattle.receiver.specs.Frames.{judgedOf}
 use Rattle.receiver.specs.Outcomes.{nothingTold, outcomeTold}
-use Rattle.receiver.specs.Steps.{Step, leaving, closing, opened, takenStep, followed, stepOf, writtenBy}
-use Rattle.receiver.specs.Receiving.{judgedPlace, stepBy, ownOf, judgedAt, judgedBy, movedBy, movedOf, storedIn, receivedOf, bufferAfter}
+use Rattle.receiver.specs.Steps.{Step, leaving, closing, opened, takenStep, followed, behindSingle, stepOf, writtenBy, judgedPlace}
+use Rattle.receiver.specs.Receiving.{stepBy, ownOf, judgedAt, judgedBy, movedBy, movedOf, storedIn, receivedOf, bufferAfter}
 use Rattle.receiver.specs.Nodes.{receptionAt, withReception}
 use Rattle.receiver.specs.Changes.{closes, Does, Changes, Leaves}
 use Rattle.receiver.specs.Wire.{Addressed}
@@ -71,15 +71,10 @@ module _ (r : Reception) (bytes : List ℕ) (stamp : ℕ) where
       (λ a. by-test _ (λ b. refused-keeps (refusal 9) refl)
       (λ b. by-test _ (λ d. by-test _ (λ e. refused-shuts (refusal 14) refl) (λ e. changes-taken from)) (λ d. refused-shuts (refusal 13) refl)))
 
-  single-changes : (from : Position) (functional : Bool) (L : ℕ) → Holds (By r bytes stamp) (pick functional (leaving r (Single from functional L)) (closing (Single from functional L)))
-  unfolding pick closing leaving
-  single-changes from true L = record { holds = does-nothing r r (Single from true L) refl }
-  single-changes from false L = record { holds = does-nothing closed closed (Single from false L) refl }
-
   changes-judged : (own : Position) (unit identifier : ℕ) (j : Judged) → judgedOf own unit identifier bytes ≡ j → By r bytes stamp (stepOf r j (length bytes) stamp)
   unfolding stepOf opened closing leaving
   changes-judged own unit identifier (judged.Refused why) f = refused-keeps why (low-keeps _ (refused-number own unit identifier bytes why f .1)) .holds
-  changes-judged own unit identifier (judged.Single from functional L) f = single-changes from functional L .holds
+  changes-judged own unit identifier (judged.Single from functional L) f = does-nothing (behindSingle r functional) (behindSingle r functional) (Single from functional L) refl
   changes-judged own unit identifier (judged.First from L) f =
       record { written-at = refl; read-from = refl; bytes = refl; reception = rw (fair own unit identifier bytes _ f .1 .named) }
   changes-judged own unit identifier (judged.OverLong from) f = does-nothing closed closed (OverLong from) refl

@@ -5,27 +5,19 @@ use lib.Dec.{eqb}
 use lib.ListN.{length}
 use Rattle.identifiers.specs.Choice.{pick, both}
 use Rattle.identifiers.specs.Refusals.{refusal}
-use Rattle.readings.specs.Positions.{placeOf, trailerAt}
+use Rattle.readings.specs.Positions.{trailerAt}
 use Rattle.readings.specs.declared.position.Vehicle.{Vehicle}
 use Rattle.readings.specs.declared.position.Vehicle.the-variants.{At, NoVehicle}
 use Rattle.receiver.specs.declared.node.Node.{Node}
 use Rattle.receiver.specs.declared.frame.Judged.{Judged}
-use Rattle.receiver.specs.declared.frame.Judged.the-variants.{Refused, Single, First, OverLong, Consecutive}
+use Rattle.receiver.specs.declared.frame.Judged.the-variants.{Refused}
 use Rattle.receiver.specs.declared.outcome.Outcome.the-variants as outcome
 use Rattle.receiver.specs.declared.receiving.Received.{Received}
-use Rattle.receiver.specs.declared.receiving.Moved.{Moved}
+use Rattle.receiver.specs.declared.steps.Moved.{Moved}
 use Rattle.receiver.specs.Receptions.{bufferLength}
 use Rattle.receiver.specs.Nodes.{receptionAt, withReception, soundNode}
 use Rattle.receiver.specs.Frames.{judgedOf}
-use Rattle.receiver.specs.Steps.{Step, stepOf, writtenBy}
-
--- the place of the vehicle whose reception a frame is about; 0 where it is refused by itself
-abbrev pub judgedPlace : Judged → ℕ
-judgedPlace (Refused why) = 0
-judgedPlace (Single from functional L) = placeOf from
-judgedPlace (First from L) = placeOf from
-judgedPlace (OverLong from) = placeOf from
-judgedPlace (Consecutive from number) = placeOf from
+use Rattle.receiver.specs.Steps.{Step, judgedPlace, moved, stepOf, writtenBy}
 
 -- 1 "lent state breaks its rules, own position not 1..5, .. or reception buffer not 1,536": otherwise the own position
 unfoldable pub ownOf : Node → ℕ → Vehicle
@@ -45,9 +37,7 @@ stepBy n j bytes stamp = stepOf (receptionAt n (judgedPlace j)) j (length bytes)
 
 -- the one reception that it moves, its place, and the outcome
 unfoldable pub movedBy : Node → Judged → List ℕ → ℕ → Moved
-movedBy n j bytes stamp =
-    let s = stepBy n j bytes stamp in
-    record { place = judgedPlace j; reception = s .reception; outcome = s .outcome }
+movedBy n j bytes stamp = moved (judgedPlace j) (stepBy n j bytes stamp)
 
 -- 1 moves none: the first stands as it is
 abbrev pub unmovedAs : Node → Moved

@@ -1,4 +1,5 @@
 -- What a frame does to its vehicle's reception and to the buffer (document 01, "Frames and trains").
+use mathlib.Core.Bool.{Bool}
 use mathlib.Core.List.{List}
 use Prim.Native.Nat.{ℕ, _+_, _-_, _*_, _%_, _^_, min}
 use lib.Dec.{ltb, eqb}
@@ -6,13 +7,14 @@ use lib.ListN.{take, drop}
 use Rattle.identifiers.specs.Choice.{pick, unless}
 use Rattle.identifiers.specs.Bytes.{written}
 use Rattle.identifiers.specs.Refusals.{refusal}
+use Rattle.readings.specs.Positions.{placeOf}
 use Rattle.readings.specs.declared.position.Position.{Position}
 use Rattle.receiver.specs.declared.reception.Reception.{Reception}
 use Rattle.receiver.specs.declared.frame.Judged.{Judged}
 use Rattle.receiver.specs.declared.frame.Judged.the-variants as judged
 use Rattle.receiver.specs.declared.outcome.Outcome.{Outcome}
 use Rattle.receiver.specs.declared.outcome.Outcome.the-variants.{Refused, OverLong, Opened, Taken, Single, Train}
-use Rattle.receiver.specs.declared.steps.Stepped.{Stepped}
+use Rattle.receiver.specs.declared.steps.Moved.{Moved}
 use Rattle.receiver.specs.Receptions.{closed, openWith, regionAt}
 
 -- what a frame does: its vehicle's reception afterwards, `count` bytes of its data, from `start` on, written at `at`, and its outcome
@@ -23,8 +25,17 @@ pub record Step : Type 0 where
   pub count : ℕ
   pub outcome : Outcome
 
-abbrev pub stepped : Step → Stepped
-stepped s = record { reception = s .reception; outcome = s .outcome }
+-- the reception so moved at a place
+abbrev pub moved : ℕ → Step → Moved
+moved place s = record { place = place; reception = s .reception; outcome = s .outcome }
+
+-- the place of the vehicle whose reception a frame is about; 0 where it is refused by itself
+abbrev pub judgedPlace : Judged → ℕ
+judgedPlace (judged.Refused why) = 0
+judgedPlace (judged.Single from functional L) = placeOf from
+judgedPlace (judged.First from L) = placeOf from
+judgedPlace (judged.OverLong from) = placeOf from
+judgedPlace (judged.Consecutive from number) = placeOf from
 
 -- "An accepted frame of a train writes its message bytes there, and nothing else is written"
 unfoldable pub writtenBy : List ℕ → Step → List ℕ → List ℕ
@@ -67,10 +78,14 @@ followed r from number count stamp =
     (unless (eqb number ((r .taken + 1) % 16)) (closing (Refused (refusal 13)))
     (pick (ltb 150 (gapOf stamp (r .last))) (closing (Refused (refusal 14))) (takenStep r from stamp))))
 
--- "A physical single frame, a first frame, an over-long one, a wrong number or a late frame ends the open reception"; "Functional frames .. touch no reception"
+-- "A physical single frame .. ends the open reception"; "Functional frames .. touch no reception"
+abbrev pub behindSingle : Reception → Bool → Reception
+behindSingle r functional = pick functional r closed
+
+-- "A physical single frame, a first frame, an over-long one, a wrong number or a late frame ends the open reception"
 unfoldable pub stepOf : Reception → Judged → ℕ → ℕ → Step
 stepOf r (judged.Refused why) count stamp = leaving r (Refused why)
-stepOf r (judged.Single from functional L) count stamp = pick functional (leaving r (Single from functional L)) (closing (Single from functional L))
+stepOf r (judged.Single from functional L) count stamp = leaving (behindSingle r functional) (Single from functional L)
 stepOf r (judged.First from L) count stamp = opened from L stamp
 stepOf r (judged.OverLong from) count stamp = closing (OverLong from)
 stepOf r (judged.Consecutive from number) count stamp = followed r from number count stamp

@@ -1,8 +1,8 @@
 // One frame offered to a node: judged by itself, then by its vehicle's reception; the bytes written; the next node.
 ghost use mathlib.Core.Path.{_≡_};
 ghost use Prim.Native.Nat.{_<_};
-ghost use Rattle.readings.specs.Positions.{placeOf};
-ghost use Rattle.receiver.specs.Receiving.{judgedPlace, unmovedAs, movedOf, receivedOf, bufferAfter};
+ghost use Rattle.receiver.specs.Steps.{judgedPlace};
+ghost use Rattle.receiver.specs.Receiving.{unmovedAs, movedOf, receivedOf, bufferAfter};
 use crate::frame::Judged;
 use crate::frame::judge;
 use crate::node::Node;
@@ -10,28 +10,16 @@ use crate::node::is_sound_behind;
 use crate::node::is_sound_in_front;
 use crate::outcome::Outcome;
 use crate::reception::BUFFER;
-use crate::reception::Reception;
+use crate::reception::place;
+use crate::steps::Moved;
 use crate::steps::step;
 use identifiers::Refusal;
 use readings::Position;
 use readings::Vehicle;
 
-// The reception that a frame moves: its place, the reception afterwards, and the frame's outcome.
-pub struct Moved {
-    pub place: usize,
-    pub reception: Reception,
-    pub outcome: Outcome,
-}
-
 pub struct Received {
     pub node: Node,
     pub outcome: Outcome,
-}
-
-fn place(position: Position) -> usize
-    ensures { λ r. ⌜ (r ≡ placeOf position) × (r < 6) ⌝ }
-{
-    position.place() as usize
 }
 
 // The place of the vehicle whose reception a judged frame is about; 0 where checks 2 to 10 refuse it.
@@ -62,7 +50,8 @@ fn unmoved(node: Node) -> Moved
     }
 }
 
-// A frame offered to the node: refusals 1 to 14, or the reception that it moves.
+// A frame offered to the node: refusals 1 to 14, or the reception that it moves. What was moved is named again field by field: the compiled code then
+// goes through the cases of the outcome once.
 pub fn move_reception(
     node: Node,
     buffer: &mut [u8],
@@ -82,9 +71,9 @@ pub fn move_reception(
     };
     let judged = judge(own, node.unit, identifier, data);
     let p = judged_place(judged);
-    let stepped = step(buffer, data, node.receptions[p], judged, stamp);
-    let reception = stepped.reception;
-    let outcome = stepped.outcome;
+    let moved = step(buffer, data, node.receptions[p], judged, stamp);
+    let reception = moved.reception;
+    let outcome = moved.outcome;
     Moved {
         place: p,
         reception,

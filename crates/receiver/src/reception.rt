@@ -1,6 +1,7 @@
 // The reception of one vehicle, closed, or open with its length, the consecutive frames taken and the last stamp; and its part of the buffer.
 ghost use mathlib.Core.Path.{_≡_};
-ghost use Prim.Native.Nat.{_≤_};
+ghost use Prim.Native.Nat.{_≤_, _<_};
+ghost use Rattle.readings.specs.Positions.{placeOf};
 ghost use Rattle.receiver.specs.Receptions.{closed, soundReception, regionAt};
 use readings::Position;
 
@@ -40,9 +41,16 @@ impl Reception {
     }
 }
 
-// Where the bytes of a position begin.
+// The place of its reception among those of a node.
+pub fn place(position: Position) -> usize
+    ensures { λ r. ⌜ (r ≡ placeOf position) × (r < 6) ⌝ }
+{
+    position.place() as usize
+}
+
+// Where its bytes begin in the buffer.
 pub fn region(position: Position) -> usize
     ensures { λ r. ⌜ (r ≡ regionAt position) × (r ≤ 1280) ⌝ }
 {
-    256 * position.place() as usize
+    256 * place(position)
 }

@@ -11,8 +11,7 @@ use Rattle.receiver.specs.declared.node.Node.{Node}
 use Rattle.receiver.specs.declared.frame.Judged.{Judged}
 use Rattle.receiver.specs.declared.frame.Judged.the-variants.{Refused, Single, First, OverLong, Consecutive}
 use Rattle.receiver.specs.Nodes.{receptionAt}
-use Rattle.receiver.specs.Steps.{stepOf}
-use Rattle.receiver.specs.Receiving.{judgedPlace}
+use Rattle.receiver.specs.Steps.{stepOf, judgedPlace}
 use Rattle.receiver.proofs.LawsSteps.{Fitted}
 use Rattle.receiver.proofs.LawsGiven.{refused-gives, functional-gives}
 use Rattle.receiver.proofs.LawsOthers.{Unmoved, unmoved-left, unmoved-other}

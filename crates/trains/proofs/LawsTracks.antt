@@ -13,8 +13,8 @@ use Rattle.receiver.specs.declared.reception.Reception.{Reception}
 use Rattle.receiver.specs.declared.frame.Judged.{Judged}
 use Rattle.receiver.specs.declared.frame.Judged.the-variants.{Refused, Single, First, OverLong, Consecutive}
 use Rattle.receiver.specs.Frames.{Frame}
-use Rattle.receiver.specs.Steps.{Step, stepOf, writtenBy}
-use Rattle.receiver.specs.Receiving.{judgedPlace, bufferAfter}
+use Rattle.receiver.specs.Steps.{Step, stepOf, writtenBy, judgedPlace}
+use Rattle.receiver.specs.Receiving.{bufferAfter}
 use Rattle.receiver.specs.Nodes.{receptionAt, withReception, soundNode, freshNode}
 use Rattle.trains.specs.Sequences.{Line, start, _▹_, size, physicalOf, seen, Elsewhere, elsewhere, Underway, begins, passes, goes-on}
 use Rattle.trains.specs.Runs.{Held, answer, next, offered, handed, handedAt}

@@ -12,11 +12,10 @@ use Rattle.readings.specs.declared.position.Vehicle.the-variants.{At, NoVehicle
 use Rattle.receiver.specs.declared.node.Node.{Node}
 use Rattle.receiver.specs.declared.frame.Judged.{Judged}
 use Rattle.receiver.specs.declared.frame.Judged.the-variants.{First}
-use Rattle.receiver.specs.declared.steps.Stepped.{Stepped}
-use Rattle.receiver.specs.declared.receiving.Moved.{Moved}
+use Rattle.receiver.specs.declared.steps.Moved.{Moved}
 use Rattle.receiver.specs.Nodes.{receptionAt}
-use Rattle.receiver.specs.Steps.{stepped, stepOf, writtenBy}
-use Rattle.receiver.specs.Receiving.{judgedPlace, ownOf, judgedAt, judgedBy, stepBy, movedBy, unmovedAs, movedOf, bufferAfter}
+use Rattle.receiver.specs.Steps.{moved, stepOf, writtenBy, judgedPlace}
+use Rattle.receiver.specs.Receiving.{ownOf, judgedAt, judgedBy, stepBy, movedBy, unmovedAs, movedOf, bufferAfter}
 use Rattle.receiver.proofs.LawsFrames.{fair}
 use Rattle.receiver.proofs.LawsRules.{sound-at}
 use Rattle.receiver.proofs.LawsReceived.{not-ready, ready-own, ready, unmoved-is, unmoved-buffer}
@@ -33,10 +32,10 @@ module _ (n : Node) (buffer : List ℕ) (identifier : ℕ) (bytes : List ℕ) (s
   )
 
   -- the frame was judged as the definition says, so what is done is the definition's
-  module _ {j : Judged} {p : ℕ} {r : Stepped} (e : j ≡ judgedBy n buffer identifier bytes) (f : p ≡ judgedPlace j) (g : r ≡ stepped (stepOf (receptionAt n p) j (length bytes) stamp)) where
-    moved : record { place = p; reception = r .reception; outcome = r .outcome } ≡ movedOf n buffer identifier bytes stamp
+  module _ {j : Judged} {p : ℕ} (e : j ≡ judgedBy n buffer identifier bytes) (f : p ≡ judgedPlace j) where
+    moved-so : {m : Moved} → m ≡ moved (judgedPlace j) (stepOf (receptionAt n p) j (length bytes) stamp) → record { place = p; reception = m .reception; outcome = m .outcome } ≡ movedOf n buffer identifier bytes stamp
     unfolding movedOf movedBy stepBy
-    moved = rw (g, f, e)
+    moved-so h = rw (h, f, e)
 
     stored : writtenBy buffer (stepOf (receptionAt n p) j (length bytes) stamp) bytes ≡ bufferAfter n buffer identifier bytes stamp
     unfolding bufferAfter stepBy
@@ -103,9 +102,10 @@ returns-3 c =
     let at-step = c .before .before .before in
     let at-place = at-step .before .before .before in
     let at-judge = at-place .before in
-    let s = start (tested (known at-judge)) in (
-      moved (s .args .t1) (s .args .buffer .now) _ _ _ (judged-so at-judge) (at-place .judged-place .ensures .0) (at-step .step .ensures .0),
-      (at-step .step .ensures .1) ∙ stored (s .args .t1) (s .args .buffer .now) _ _ _ (judged-so at-judge) (at-place .judged-place .ensures .0) (at-step .step .ensures .0),
+    let s = start (tested (known at-judge)) in
+    let a = s .args in (
+      moved-so (a .t1) (a .buffer .now) (a .identifier) (a .«data» .now) (a .stamp) (judged-so at-judge) (at-place .judged-place .ensures .0) (at-step .step .ensures .0),
+      (at-step .step .ensures .1) ∙ stored (a .t1) (a .buffer .now) (a .identifier) (a .«data» .now) (a .stamp) (judged-so at-judge) (at-place .judged-place .ensures .0),
     )
 
 pub move-reception-spec : {M : Type 1} → statement M

@@ -2,7 +2,6 @@
 use mathlib.Core.Path.{refl}
 use borrow.Author.Needs.{needs}
 use Rattle.receiver.specs.Nodes.{receptionAt}
-use Rattle.receiver.specs.Receiving.{unmovedAs}
 use Rattle.receiver.proofs.receiving.unmoved.Statement.{statement}
 use Rattle.receiver.proofs.receiving.unmoved.Tie as tie
 

@@ -8,7 +8,7 @@ use borrow.Author.Needs.{needs}
 use borrow.Author.Tests.{eq-eqb}
 use Rattle.identifiers.proofs.LawsChoice.{taken}
 use Rattle.receiver.specs.declared.reception.Reception.{Reception}
-use Rattle.receiver.specs.Steps.{Step, stepped, doneOf, leftOf, followed, writtenBy}
+use Rattle.receiver.specs.Steps.{moved, Step, doneOf, leftOf, followed, writtenBy}
 use Rattle.receiver.proofs.LawsRules.{open-facts}
 use Rattle.receiver.proofs.LawsSteps.{unwritten, unclosed}
 use Rattle.receiver.proofs.LawsFollowed.{followed-short, followed-wrong, followed-late, followed-taken}
@@ -42,7 +42,7 @@ returns : tie.Need-returns
 unfolding followed
 returns c =
     let e = taken _ (eq-eqb _ _ (c .before .if1 .taken)) refl in
-    (c .leave .ensures ∙ ap stepped e, unwritten _ _ _ _ (sym e))
+    (c .leave .ensures ∙ ap (moved _) e, unwritten _ _ _ _ (sym e))
 
 returns-2 : tie.Need-returns-2
 returns-2 c =
@@ -50,7 +50,7 @@ returns-2 c =
     let r = reception k in
     let short = rw (c .before .before .at-most-six .ensures) at (c .before .if2 .taken) in
     let e = followed-short (r .length) (r .taken) (r .last) (start k .args .from) (start k .args .number) (count k) (start k .args .stamp) (k .if1 .left) short in
-    (c .leave2 .ensures ∙ ap stepped (sym e), unwritten _ _ _ _ e)
+    (c .leave2 .ensures ∙ ap (moved _) (sym e), unwritten _ _ _ _ e)
 
 returns-3 : tie.Need-returns-3
 returns-3 c =
@@ -59,7 +59,7 @@ returns-3 c =
     let r = reception k in
     let another = rw (add-one (r .taken)) at (c .before .if3 .taken) in
     let e = followed-wrong (r .length) (r .taken) (r .last) (start k .args .from) (start k .args .number) (count k) (start k .args .stamp) (k .if1 .left) (enough l) another in
-    (c .close .ensures ∙ ap stepped (sym e), unclosed _ _ _ e)
+    (c .close .ensures ∙ ap (moved _) (sym e), unclosed _ _ _ e)
 
 returns-4 : tie.Need-returns-4
 returns-4 c =
@@ -69,14 +69,14 @@ returns-4 c =
     let r = reception k in
     let late = rw (c .before .before .gap .ensures) at (c .before .if4 .taken) in
     let e = followed-late (r .length) (r .taken) (r .last) (start k .args .from) (start k .args .number) (count k) (start k .args .stamp) (k .if1 .left) (enough l) (next n) late in
-    (c .close2 .ensures ∙ ap stepped (sym e), unclosed _ _ _ e)
+    (c .close2 .ensures ∙ ap (moved _) (sym e), unclosed _ _ _ e)
 
 take-requires : tie.Need-take-requires
 unfolding leftOf doneOf
 take-requires c κs =
     let l = c .before .before .before .before in
     let s = start (is-open l) in
-    (s .pre .0, left (is-open l) .0, s .pre .1, enough l)
+    (s .pre .0, left (is-open l) .0, refl, s .pre .1, enough l)
 
 returns-5 : tie.Need-returns-5
 returns-5 c =
@@ -88,7 +88,7 @@ returns-5 c =
     let r = reception k in
     let in-time = rw (at-if4 .before .gap .ensures) at (at-if4 .if4 .left) in
     let e = followed-taken (r .length) (r .taken) (r .last) (start k .args .from) (start k .args .number) (count k) (start k .args .stamp) (k .if1 .left) (enough l) (next n) in-time in
-    (at-take .take .ensures .0 ∙ ap stepped (sym e), at-take .take .ensures .1 ∙ ap (λ (s : Step). writtenBy (start k .args .buffer .now) s (start k .args .«data» .now)) (sym e))
+    (at-take .take .ensures .0 ∙ ap (moved _) (sym e), at-take .take .ensures .1 ∙ ap (λ (s : Step). writtenBy (start k .args .buffer .now) s (start k .args .«data» .now)) (sym e))
 
 pub follow-spec : {M : Type 1} → statement M
 follow-spec =
@@ -96,10 +96,10 @@ follow-spec =
     (tie.spec
     (λ c. search needs)
     (λ c. search needs)
+    (λ c. search needs)
+    (λ c. search needs)
     (λ c κs. tt)
     returns
-    (λ c. search needs)
-    (λ c. search needs)
     (λ c. omega (arith, left c .1))
     (λ c κs. tt)
     (λ c. search needs)

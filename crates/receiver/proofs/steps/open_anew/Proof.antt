@@ -1,5 +1,4 @@
 -- `open_anew` meets its contract: five bytes, at the start of the vehicle's region.
-use mathlib.Core.Path.{refl}
 use native.Mathlib.Omega.{arith}
 use borrow.Author.Needs.{needs}
 use Rattle.receiver.specs.Steps.{opened, writtenBy}
@@ -9,8 +8,9 @@ use Rattle.receiver.proofs.steps.open_anew.Tie as tie
 returns : tie.Need-returns
 unfolding opened writtenBy
 returns c =
-    let at-store = c .before .before in
-    (refl, rw (at-store .before .region .ensures .0) at (at-store .store .ensures))
+    let at-store = c .before .before .before in
+    (rw (c .place .ensures .0), rw (at-store .before .region .ensures .0) at (at-store .store .ensures))
 
 pub open-anew-spec : {M : Type 1} → statement M
-open-anew-spec = tie.close (tie.spec (λ c κs. tt) (λ c κs. (omega (arith, c .region .ensures .1), (omega arith))) (λ c. search needs) returns)
+open-anew-spec =
+    tie.close (tie.spec (λ c κs. tt) (λ c κs. (omega (arith, c .region .ensures .1), omega arith)) (λ c κs. tt) (λ c. search needs) returns)

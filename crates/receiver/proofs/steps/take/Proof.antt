@@ -9,7 +9,7 @@ use Rattle.readings.specs.declared.position.Position.{Position}
 use Rattle.receiver.specs.declared.reception.Reception.{Reception}
 use Rattle.receiver.specs.declared.outcome.Outcome.the-variants.{Taken, Train}
 use Rattle.receiver.specs.Receptions.{closed, openWith, regionAt}
-use Rattle.receiver.specs.Steps.{Step, stepped, doneOf, leftOf, takenStep, closing, leaving, writtenBy}
+use Rattle.receiver.specs.Steps.{moved, Step, doneOf, leftOf, takenStep, writtenBy, closing, leaving}
 use Rattle.receiver.proofs.LawsRules.{open-facts}
 use Rattle.receiver.proofs.steps.take.Statement.{statement}
 use Rattle.receiver.proofs.steps.take.Tie as tie
@@ -25,27 +25,32 @@ module _ (r : Reception) (from : Position) (stamp : ℕ) where
 
 -- some bytes are left
 abbrev start : tie.After-region → tie.Start
-start k = k .before .before .before .before .before
+start k = k .before .before .before .before
+
+is-done : (k : tie.After-region) → start k .args .done ≡ 5 + 6 * start k .args .reception .taken
+unfolding doneOf
+is-done k = start k .pre .2
 
 left : (k : tie.After-region) → 5 + 6 * start k .args .reception .taken < start k .args .reception .length
 left k = let s = start k in open-facts (s .args .reception) (s .pre .0) (λ z. omega (arith, s .pre .1)) .1
 
 store-six-requires : tie.Need-store-six-requires
 unfolding leftOf doneOf
-store-six-requires c κs = let k = c .before .before in (omega (arith, k .region .ensures, left k), omega (arith, left k, start k .pre .3))
+store-six-requires c κs = let k = c .before .before in (omega (arith, k .region .ensures, is-done k, left k), omega (arith, is-done k, left k, start k .pre .4))
 
 returns : tie.Need-returns
-unfolding leftOf doneOf writtenBy
+unfolding leftOf doneOf closing leaving writtenBy
 returns c =
-    let at-store-six = c .before .before .before in
+    let at-store-six = c .before .before .before .before in
     let at-if1 = at-store-six .before .before in
     let k = at-if1 .before in
-    let e = six (start k .args .reception) (start k .args .from) (start k .args .stamp) (at-if1 .if1 .taken) in
-    (ap stepped e, rw (k .region .ensures .0) at (at-store-six .store-six .ensures) ∙ ap (λ (s : Step). writtenBy (start k .args .buffer .now) s (start k .args .«data» .now)) e)
+    let a = start k .args in
+    let e = six (a .reception) (a .from) (a .stamp) (rw (is-done k) at (at-if1 .if1 .taken)) in
+    (c .leave .ensures ∙ ap (moved _) e, rw (k .region .ensures .0, is-done k) at (at-store-six .store-six .ensures) ∙ ap (λ (s : Step). writtenBy (a .buffer .now) s (a .«data» .now)) e)
 
 store-requires : tie.Need-store-requires
 unfolding leftOf doneOf
-store-requires c κs = let k = c .before .before in (omega (arith, k .region .ensures, left k), omega (arith, left k, start k .pre .3))
+store-requires c κs = let k = c .before .before in (omega (arith, k .region .ensures, is-done k, left k), omega (arith, is-done k, left k, start k .pre .4))
 
 returns-2 : tie.Need-returns-2
 unfolding leftOf doneOf closing leaving writtenBy
@@ -53,25 +58,24 @@ returns-2 c =
     let at-store = c .before .before .before in
     let at-if1 = at-store .before .before in
     let k = at-if1 .before in
-    let e = rest (start k .args .reception) (start k .args .from) (start k .args .stamp) (at-if1 .if1 .left) in
-    (c .close .ensures ∙ ap stepped e, rw (k .region .ensures .0) at (at-store .store .ensures) ∙ ap (λ (s : Step). writtenBy (start k .args .buffer .now) s (start k .args .«data» .now)) e)
+    let a = start k .args in
+    let e = rest (a .reception) (a .from) (a .stamp) (rw (is-done k) at (at-if1 .if1 .left)) in
+    (c .close .ensures ∙ ap (moved _) e, rw (k .region .ensures .0, is-done k) at (at-store .store .ensures) ∙ ap (λ (s : Step). writtenBy (a .buffer .now) s (a .«data» .now)) e)
 
 pub take-spec : {M : Type 1} → statement M
 take-spec =
     tie.close
     (tie.spec
     (λ c. search needs)
-    (λ c. search needs)
-    (λ c. search needs)
-    (λ c. search needs)
+    (λ c κs. tt)
+    (λ c. omega (arith, c .region .ensures, is-done c, left c))
+    (λ c. omega (arith, is-done c, left c))
+    store-six-requires
+    (λ c. let k = c .before .before .before .before .before .before in omega (arith, left k))
     (λ c κs. tt)
     (λ c. search needs)
-    (λ c. omega (arith, left c))
-    store-six-requires
-    (λ c. search needs)
-    (λ c. search needs)
     returns
-    (λ c. omega (arith, left (c .before .before)))
+    (λ c. let k = c .before .before in omega (arith, is-done k, left k))
     store-requires
     (λ c κs. tt)
     (λ c. search needs)
