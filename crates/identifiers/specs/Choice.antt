@@ -6,6 +6,10 @@ unfoldable pub pick : {A : Type 0} → Bool → A → A → A
 pick true a b = a
 pick false a b = b
 
+-- the first unless the test holds, then the second
+abbrev pub unless : {A : Type 0} → Bool → A → A → A
+unless test a b = pick test b a
+
 unfoldable pub both : Bool → Bool → Bool
 both true b = b
 both false b = false
