@@ -1,10 +1,10 @@
--- `sent_on` meets its contract: to the other side, by whether a successor exists.
+-- `onward_of` meets its contract: to the other side, by whether a successor exists.
 use mathlib.Core.Path.{refl}
 use borrow.Author.Needs.{needs}
 use Rattle.identifiers.proofs.LawsChoice.{taken, passed}
 use Rattle.readings.specs.Routes.{onwardOf}
-use Rattle.readings.proofs.routing.sent_on.Statement.{statement}
-use Rattle.readings.proofs.routing.sent_on.Tie as tie
+use Rattle.readings.proofs.routing.onward_of.Statement.{statement}
+use Rattle.readings.proofs.routing.onward_of.Tie as tie
 
 returns : tie.Need-returns
 unfolding onwardOf
@@ -18,5 +18,5 @@ returns-3 : tie.Need-returns-3
 unfolding onwardOf
 returns-3 c = rw (c .enum-told2 .given .1)
 
-pub sent-on-spec : {M : Type 1} → statement M
-sent-on-spec = tie.close (tie.spec (λ c. search needs) (λ c. search needs) returns returns-2 returns-3)
+pub onward-of-spec : {M : Type 1} → statement M
+onward-of-spec = tie.close (tie.spec (λ c. search needs) (λ c. search needs) returns returns-2 returns-3)

@@ -1,4 +1,4 @@
--- `by_high_byte` meets its contract: each return is at one of the laws of `measuredBy`.
+-- `measure` meets its contract: each return is at one of the laws of `measuredBy`.
 use mathlib.Core.Path.{_≡_, sym, ap, _∙_}
 use native.Mathlib.Omega.{arith}
 use borrow.Author.Needs.{needs}
@@ -7,8 +7,8 @@ use Rattle.readings.specs.declared.kind.Kind.{Kind}
 use Rattle.readings.specs.Kinds.{highByte}
 use Rattle.readings.specs.Readings.{measuredBy, measuredAs}
 use Rattle.readings.proofs.LawsReadings.{high-value, high-reserved, high-error, high-not-available, high-20}
-use Rattle.readings.proofs.reading.by_high_byte.Statement.{statement}
-use Rattle.readings.proofs.reading.by_high_byte.Tie as tie
+use Rattle.readings.proofs.reading.measure.Statement.{statement}
+use Rattle.readings.proofs.reading.measure.Tie as tie
 
 at-high : (k : Kind) (raw high : ℕ) → high ≡ highByte (k .bytes) raw → measuredBy k raw high ≡ measuredAs k raw
 unfolding measuredAs
@@ -41,8 +41,8 @@ returns-5 c =
     let entry = at-high-byte .before in
     sym (high-20 (entry .args .kind) (entry .args .raw) (at-high-byte .high-byte .result) (omega (arith, (c .before .before .if2 .left), (c .before .if3 .left), (c .if4 .left)))) ∙ at-high _ _ _ (at-high-byte .high-byte .ensures)
 
-pub by-high-byte-spec : {M : Type 1} → statement M
-by-high-byte-spec =
+pub measure-spec : {M : Type 1} → statement M
+measure-spec =
     tie.close
     (tie.spec
     (λ c κs. tt)
