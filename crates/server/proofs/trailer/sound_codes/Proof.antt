@@ -1,4 +1,4 @@
--- `codes_kept` meets its contract: where the codes ascend, the last decides for all.
+-- `sound_codes` meets its contract: where the codes ascend, the last decides for all.
 use mathlib.Core.Path.{sym}
 use native.Mathlib.Omega.{arith}
 use borrow.Author.Needs.{needs}
@@ -6,8 +6,8 @@ use Rattle.identifiers.proofs.LawsChoice.{so}
 use Rattle.identifiers.proofs.LawsBelow.{all-none}
 use Rattle.server.specs.Trailer.{ascending}
 use Rattle.server.proofs.LawsTrailer.{codes-by-last}
-use Rattle.server.proofs.trailer.codes_kept.Statement.{statement}
-use Rattle.server.proofs.trailer.codes_kept.Tie as tie
+use Rattle.server.proofs.trailer.sound_codes.Statement.{statement}
+use Rattle.server.proofs.trailer.sound_codes.Tie as tie
 
 returns : tie.Need-returns
 unfolding ascending
@@ -16,8 +16,8 @@ returns c = rw (c .if1 .taken) (so (all-none _) (sym (all-none _)))
 returns-2 : tie.Need-returns-2
 returns-2 c = rw (c .before .codes-ascend .ensures) (codes-by-last _ _ (omega arith))
 
-pub codes-kept-spec : {M : Type 1} → statement M
-codes-kept-spec = tie.close (tie.spec
+pub sound-codes-spec : {M : Type 1} → statement M
+sound-codes-spec = tie.close (tie.spec
     returns
     (λ c. search needs)
     (λ c κs. search needs)
