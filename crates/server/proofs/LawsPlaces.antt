@@ -1,16 +1,12 @@
 -- Laws of a number among the first n of a list: what is known of the place at which it is found.
-use mathlib.Core.Path.{_≡_, refl, sym, ap, _∙_}
-use mathlib.Core.Bool.{Bool, true, false, not-eq-not}
-use mathlib.Core.Logic.{⊎-elim}
+use mathlib.Core.Path.{_≡_}
+use mathlib.Core.Bool.{true, false, not-eq-not}
 use mathlib.Core.List.{List}
-use Prim.Native.Nat.{ℕ, zero, suc, _+_, _<_, _≤_}
-use native.Mathlib.Nat.{eq-or-lt-of-le}
-use native.Mathlib.Numerals.{add-one}
+use Prim.Native.Nat.{ℕ, _<_}
 use native.Mathlib.Omega.{arith}
-use borrow.Author.Tests.{ltb-true, ltb-false, le-ltb, lt-ltb, eqb-true, eqb-false}
-use lib.Dec.{eqb, ltb}
+use borrow.Author.Tests.{ltb-true, ltb-false, eqb-true, eqb-false}
+use lib.Dec.{eqb}
 use lib.ListN.{getD}
-use Rattle.identifiers.specs.Choice.{pick}
 use Rattle.identifiers.proofs.LawsBelow.{first-found}
 use Rattle.server.specs.Places.{placeAmong, heldAmong}
 
