@@ -50,9 +50,10 @@ array-write-statuses c = omega (arith, few (behind (c .before .before .before)))
 
 returns-4 : tie.Need-returns-4
 returns-4 c =
-    let args = entry (behind (c .before .before .before)) .args in
-    set-ends (setting-set _ _ _ (sound (behind (c .before .before .before))) (held (c .before .before)) (sym (c .before .status-within .ensures) ∙ not-false _ (c .if3 .left)))
-    (ap (λ (i : ℕ). withStatuses (args .t1) (set (args .t1 .statuses) i (args .status))) (c .before .before .before .place-among .ensures), refl)
+    let placed = c .before .before .before in
+    let args = entry (behind placed) .args in
+    set-ends (setting-set _ _ _ (sound (behind placed)) (held (c .before .before)) (sym (c .before .status-within .ensures) ∙ not-false _ (c .if3 .left)))
+    (ap (λ (i : ℕ). withStatuses (args .t1) (set (args .t1 .statuses) i (args .status))) (placed .place-among .ensures), refl)
 
 pub set-status-spec : {M : Type 1} → statement M
 set-status-spec = tie.close (tie.spec
