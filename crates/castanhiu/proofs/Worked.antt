@@ -7,17 +7,17 @@ use lib.IntN.{pos, negsuc}
 use lib.Ieee.{fin, round}
 use lib.ListN.{length, replicate}
 use Rattle.identifiers.specs.Choice.{pick, both, either}
-use Rattle.identifiers.specs.Below.{allBelow, countBelow, listBelow}
+use Rattle.identifiers.specs.Below.{allBelow, countBelow, listBelow, firstBelow}
 use Rattle.identifiers.specs.Bytes.{written}
 use Rattle.identifiers.specs.Refusals.{refusal}
-use Rattle.identifiers.specs.Identifiers.{formula, reservedBit, fieldsOf, frameRead, readOf, writtenAs, targetOf}
+use Rattle.identifiers.specs.Identifiers.{formula, reservedBit, fieldsOf, framePassing, readPassing, frameRead, readOf, writtenAs, targetOf}
 use Rattle.identifiers.specs.declared.identifier.Identifier.{Identifier}
 use Rattle.identifiers.specs.declared.identifier.IdentifierRead.the-variants as read
 use Rattle.identifiers.specs.declared.identifier.Target.the-variants.{Destination}
 use Rattle.readings.specs.Fractions.{fraction}
 use Rattle.readings.specs.Kinds as kinds
-use Rattle.readings.specs.Positions.{addresses, addressOf, positions, vehicleAmong, vehicleOf, positionAt, trailerAt, successorOf, nextOf, takenAs, takenAfter}
-use Rattle.readings.specs.Readings.{bare, valued, inRange, measuredBy, measuredAs, parameterOf}
+use Rattle.readings.specs.Positions.{addresses, addressOf, positions, positionAmong, positionOf, positionAt, trailerAt, successorOf, nextOf, takenAs, takenAfter}
+use Rattle.readings.specs.Readings.{withoutValue, valued, inRange, measuredBy, measuredAs, parameterOf}
 use Rattle.readings.specs.declared.position.Position.the-variants.{Zero, One, Five}
 use Rattle.readings.specs.declared.position.Vehicle.the-variants.{At}
 use Rattle.readings.specs.declared.position.AddressTaken.the-variants as address
@@ -33,20 +33,20 @@ use Rattle.receiver.specs.Shown.{shownOf}
 use Rattle.receiver.specs.Cuts.{frameCount, noFrame, physicalTo, framedAs, framed, headed, pieceOf, between, cutOf}
 use Rattle.trains.specs.Sequences.{start, _▹_, size, Request}
 use Rattle.trains.specs.Runs.{Held, answer, offered, handed, handedAt, requests}
-use Rattle.receiver.specs.declared.node.Answer.the-variants.{Done}
+use Rattle.identifiers.specs.declared.answer.Answer.the-variants.{Done}
 use Rattle.receiver.specs.declared.outcome.Outcome.{Outcome}
 use Rattle.receiver.specs.declared.outcome.Outcome.the-variants as outcome
-use Rattle.server.specs.Mask.{maskKept}
+use Rattle.server.specs.Mask.{soundMask}
 use Rattle.server.specs.Places as places
 use Rattle.server.specs.Trailer.{ascending, codesBelow, statusWithin, statusesWithin, lengthWithin, lengthsWithin, soundRecord}
 use Rattle.server.specs.Faults.{matches, listed, countListed, twoBytes, codeAndStatus, reported, reportOf, groupHeld, inGroup, storedBelow, clearedOf}
 use Rattle.server.specs.DataIdentifiers.{askedCount, askedAt, dataOf, identifierAndData, answerTo, answersOf}
 use Rattle.server.specs.Requests.{serviceOf, subFunctionOf, silencing, maskOf, groupOf, sized, formOf14, formOf19, formOf22, formOf3E, requestBy, requestOf}
 use Rattle.server.specs.Silence.{silenced, quietCode, silentOn}
-use Rattle.server.specs.Server.{contentOf14, contentOf19, contentOf22, negativeOf, negativeBytes, positiveOf, changedBy, wrongLengths, answered as answeredTo, outcomeOf}
+use Rattle.server.specs.Server.{contentOf14, contentOf19, contentOf22, negativeOf, negativeBytes, positiveOf, changedBy, wrongLengths, answered as answeredTo, servedOf}
 use Rattle.server.specs.declared.trailer.TrailerRecord.{TrailerRecord}
-use Rattle.server.specs.declared.serving.Answer.{Answer}
-use Rattle.server.specs.declared.serving.Answer.the-variants.{Silent, Sent}
+use Rattle.server.specs.declared.serving.Reply.{Reply}
+use Rattle.server.specs.declared.serving.Reply.the-variants.{Silent, Sent}
 
 -- the fields of `18CEC9EB`
 abbrev pub fields : Identifier
@@ -97,18 +97,18 @@ trailer =
     }
 
 -- the server's answer to a physical request, and its response buffer afterwards, of which every byte was AA
-abbrev pub reply : List ℕ → Answer
-reply asked = outcomeOf trailer asked false (replicate 255 0xAA) .answer
+abbrev pub reply : List ℕ → Reply
+reply asked = servedOf trailer asked false (replicate 255 0xAA) .reply
 
 abbrev pub response : List ℕ → List ℕ
-response asked = outcomeOf trailer asked false (replicate 255 0xAA) .response
+response asked = servedOf trailer asked false (replicate 255 0xAA) .response
 
 pub record Worked : Type 0 where
   -- "`18CEC9EB`: P 6, PF 206, to position 1 from 0."
   pub identifier : readOf 0x18CEC9EB ≡ read.Fields fields
   pub destination : targetOf fields ≡ Destination 0xC9
-  pub to-position : vehicleOf 0xC9 ≡ At One
-  pub from-position : vehicleOf 0xEB ≡ At Zero
+  pub to-position : positionOf 0xC9 ≡ At One
+  pub from-position : positionOf 0xEB ≡ At Zero
   -- "`20000000`: 2."
   pub too-large : readOf 0x20000000 ≡ read.Refused (refusal 2)
   -- "`1FFFFFFF`: 4."
@@ -157,7 +157,7 @@ pub record Worked : Type 0 where
   pub short-bytes : response (0x3E ∷ []) ≡ 0x7F ∷ 0x3E ∷ 0x13 ∷ replicate 252 0xAA
 
 pub worked : Worked
-unfolding round pick both either allBelow countBelow listBelow written formula reservedBit fieldsOf frameRead readOf writtenAs targetOf fraction kinds.kindOf kinds.highByte kinds.wholeOf addresses addressOf positions vehicleAmong vehicleOf positionAt trailerAt successorOf nextOf takenAs takenAfter bare valued inRange measuredBy measuredAs parameterOf soundReception receptionAt withReception soundNode freshNode singleOf firstLength firstOf carriedOf unitIs diagnostic destinationOf addressedFrom addressedBy addressedRead addressingOf judgedFrom judgedOf gapOf regionAt leaving closing opened doneOf leftOf takenStep followed stepOf stepBy ownOf judgedAt judgedBy movedBy movedOf storedIn receivedOf writtenBy bufferAfter shownOf frameCount noFrame physicalTo framedAs framed headed pieceOf between cutOf size offered handed handedAt requests maskKept places.firstBelow places.placeOf places.heldAmong ascending codesBelow statusWithin statusesWithin lengthWithin lengthsWithin soundRecord matches listed countListed twoBytes codeAndStatus reported reportOf groupHeld inGroup storedBelow clearedOf askedCount askedAt dataOf identifierAndData answerTo answersOf serviceOf subFunctionOf silencing maskOf groupOf sized formOf14 formOf19 formOf22 formOf3E requestBy requestOf silenced quietCode silentOn contentOf14 contentOf19 contentOf22 negativeOf negativeBytes positiveOf changedBy wrongLengths answeredTo outcomeOf
+unfolding round pick both either allBelow countBelow listBelow written formula reservedBit fieldsOf framePassing readPassing frameRead readOf writtenAs targetOf fraction kinds.kindOf kinds.highByte kinds.wholeOf addresses addressOf positions positionAmong positionOf positionAt trailerAt successorOf nextOf takenAs takenAfter withoutValue valued inRange measuredBy measuredAs parameterOf soundReception receptionAt withReception soundNode freshNode singleOf firstLength firstOf carriedOf unitIs diagnostic destinationOf addressedFrom addressedBy addressedRead addressingOf judgedFrom judgedOf gapOf regionAt leaving closing opened doneOf leftOf takenStep followed stepOf stepBy ownOf judgedAt judgedBy movedBy movedOf storedIn receivedOf writtenBy bufferAfter shownOf frameCount noFrame physicalTo framedAs framed headed pieceOf between cutOf size offered handed handedAt requests soundMask firstBelow places.placeAmong places.heldAmong ascending codesBelow statusWithin statusesWithin lengthWithin lengthsWithin soundRecord matches listed countListed twoBytes codeAndStatus reported reportOf groupHeld inGroup storedBelow clearedOf askedCount askedAt dataOf identifierAndData answerTo answersOf serviceOf subFunctionOf silencing maskOf groupOf sized formOf14 formOf19 formOf22 formOf3E requestBy requestOf silenced quietCode silentOn contentOf14 contentOf19 contentOf22 negativeOf negativeBytes positiveOf changedBy wrongLengths answeredTo servedOf
 worked =
     record {
       identifier = refl;

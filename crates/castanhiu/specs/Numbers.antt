@@ -4,11 +4,11 @@ use Prim.Native.Nat.{ℕ}
 use lib.Dec.{eqb}
 use Rattle.identifiers.specs.Choice.{pick}
 use Rattle.identifiers.specs.Refusals.{refusal}
+use Rattle.identifiers.specs.Answers.{answerNumber}
 use Rattle.readings.specs.Routes.{routeOf}
 use Rattle.readings.specs.declared.routing.Routed.{Routed}
 use Rattle.readings.specs.declared.routing.Routed.the-variants.{Refused}
 use Rattle.readings.specs.declared.routing.Side.the-variants.{Predecessor, Successor}
-use Rattle.receiver.specs.Nodes.{answerNumber}
 use Rattle.receiver.specs.Outcomes.{outcomeTold}
 use Rattle.receiver.specs.Cuts.{flowControlOf, noFrame}
 use Rattle.receiver.specs.declared.node.Changed.{Changed}

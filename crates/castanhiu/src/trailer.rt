@@ -1,20 +1,20 @@
 // The trailer record: checked by value; served and set where it is lent, of which only the statuses can change.
 ghost use mathlib.Core.Path.{_≡_};
-ghost use Rattle.server.specs.Server.{outcomeOf};
+ghost use Rattle.identifiers.specs.Answers.{answerTold};
+ghost use Rattle.server.specs.Server.{servedOf};
 ghost use Rattle.server.specs.Status.{settingOf};
 ghost use Rattle.server.specs.Trailer.{checkedAs};
-ghost use Rattle.server.specs.Told.{answerTold, checkedTold, statusTold};
-use server::AnswerTold;
-use server::RecordCheckedTold;
-use server::StatusAnswerTold;
+ghost use Rattle.server.specs.Told.{replyTold};
+use identifiers::AnswerTold;
+use server::ReplyTold;
 use server::TrailerRecord;
 use server::check;
 use server::serve;
 use server::set_status;
 
 #[no_mangle]
-pub extern "C" fn castanhiu_record_check(record: TrailerRecord) -> RecordCheckedTold
-    ensures { λ r. ⌜ r ≡ checkedTold (checkedAs «record») ⌝ }
+pub extern "C" fn castanhiu_record_check(record: TrailerRecord) -> AnswerTold
+    ensures { λ r. ⌜ r ≡ answerTold (checkedAs «record») ⌝ }
 {
     check(record).told()
 }
@@ -25,14 +25,14 @@ pub extern "C" fn castanhiu_serve(
     request: &[u8],
     functional: bool,
     response: &mut [u8],
-) -> AnswerTold
-    ensures { λ r. ⌜ (now («record» .exit) ≡ outcomeOf (now («record» .entry)) (now (request .entry)) functional (now (response .entry)) .after)
-        × ((r ≡ answerTold (outcomeOf (now («record» .entry)) (now (request .entry)) functional (now (response .entry)) .answer))
-        × (now (response .exit) ≡ outcomeOf (now («record» .entry)) (now (request .entry)) functional (now (response .entry)) .response)) ⌝ }
+) -> ReplyTold
+    ensures { λ r. ⌜ (now («record» .exit) ≡ servedOf (now («record» .entry)) (now (request .entry)) functional (now (response .entry)) .after)
+        × ((r ≡ replyTold (servedOf (now («record» .entry)) (now (request .entry)) functional (now (response .entry)) .reply))
+        × (now (response .exit) ≡ servedOf (now («record» .entry)) (now (request .entry)) functional (now (response .entry)) .response)) ⌝ }
 {
     let served = serve(*record, request, functional, response);
     record.statuses = served.statuses;
-    served.answer.told()
+    served.reply.told()
 }
 
 #[no_mangle]
@@ -40,9 +40,9 @@ pub extern "C" fn castanhiu_set_status(
     record: &mut TrailerRecord,
     code: u32,
     status: u8,
-) -> StatusAnswerTold
+) -> AnswerTold
     ensures { λ r. ⌜ (now («record» .exit) ≡ settingOf (now («record» .entry)) code status .after)
-        × (r ≡ statusTold (settingOf (now («record» .entry)) code status .answer)) ⌝ }
+        × (r ≡ answerTold (settingOf (now («record» .entry)) code status .answer)) ⌝ }
 {
     let set = set_status(*record, code, status);
     record.statuses = set.statuses;

@@ -1,4 +1,4 @@
--- Laws of what is said of every index below a number: none yet, one more, and what the whole says of each. One loop law for all loops.
+-- Laws of what is said of every index below a number: none yet, one more, what the whole says of each, and what the first is. One loop law for all loops.
 use mathlib.Core.Path.{_≡_, refl, sym, ap, _∙_}
 use mathlib.Core.Bool.{Bool, true, false, false≢true, _&&_}
 use mathlib.Core.List.{List, [], _++_, append-nil}
@@ -7,9 +7,11 @@ use Prim.Native.Nat.{ℕ, zero, suc, _+_, _<_, _≤_}
 use native.Mathlib.Nat.{add-zero, add-suc, eq-or-lt-of-le}
 use native.Mathlib.Numerals.{add-one}
 use native.Mathlib.Omega.{arith}
+use borrow.Author.Tests.{ltb-true, ltb-false, le-ltb, lt-ltb}
+use lib.Dec.{ltb}
 use lib.ListN.{length, length-append}
 use Rattle.identifiers.specs.Choice.{pick, both}
-use Rattle.identifiers.specs.Below.{allBelow, countBelow, listBelow}
+use Rattle.identifiers.specs.Below.{allBelow, countBelow, listBelow, firstBelow}
 use Rattle.identifiers.proofs.LawsChoice.{both-false, true-after, both-assoc, both-true, and-is}
 
 -- ---- allBelow
@@ -53,10 +55,10 @@ pub all-last : (p : ℕ → Bool) (n : ℕ) → allBelow p n ≡ true → allBel
 unfolding allBelow both
 all-last p n h = rw (add-one n, h)
 
--- a loop that keeps a test's answer, `kept = kept & p(n)`
-pub all-turn : (p : ℕ → Bool) (n : ℕ) {kept : Bool} → kept ≡ allBelow p n → (kept && p n) ≡ allBelow p (n + 1)
+-- a loop that asks a test of each, `sound = sound & p(n)`
+pub all-turn : (p : ℕ → Bool) (n : ℕ) {sound : Bool} → sound ≡ allBelow p n → (sound && p n) ≡ allBelow p (n + 1)
 unfolding allBelow
-all-turn p n {kept} h = and-is kept (p n) ∙ rw (h, add-one n)
+all-turn p n {sound} h = and-is sound (p n) ∙ rw (h, add-one n)
 
 pub all-each : (p : ℕ → Bool) (n : ℕ) → ((i : ℕ) → i < n → p i ≡ true) → allBelow p n ≡ true
 unfolding allBelow both
@@ -135,3 +137,38 @@ pub list-each : (f g : ℕ → List ℕ) (n : ℕ) → ((i : ℕ) → i < n → 
 unfolding listBelow
 list-each f g zero h = refl
 list-each f g (suc n) h = rw (list-each f g n (λ i l. h i (omega arith)), h n (omega arith))
+
+-- ---- firstBelow
+pub first-none : (p : ℕ → Bool) → firstBelow p 0 ≡ 0
+unfolding firstBelow
+first-none p = refl
+
+pub first-miss : (p : ℕ → Bool) (n : ℕ) → firstBelow p n ≡ n → p n ≡ false → firstBelow p (n + 1) ≡ n + 1
+unfolding firstBelow pick
+first-miss p n h e = rw (add-one n, h, le-ltb n n (omega arith), e)
+
+pub first-hit : (p : ℕ → Bool) (i n : ℕ) → firstBelow p i ≡ i → p i ≡ true → i < n → firstBelow p n ≡ i
+unfolding firstBelow pick
+first-hit p i zero h e l = absurd (omega arith)
+first-hit p i (suc n) h e l =
+    ⊎-elim (λ (q : i ≡ n). rw (sym (ap (firstBelow p) q) ∙ h ∙ q, le-ltb n n (omega arith), sym (ap p q) ∙ e) (sym q))
+    (λ (q : i < n). rw (first-hit p i n h e q, lt-ltb i n q)) (eq-or-lt-of-le (omega arith))
+
+-- what is found: a place below n that has p, or n where none below n has it
+pub record First (p : ℕ → Bool) (n found : ℕ) : Type 0 where
+  pub le : found ≤ n
+  pub at : found < n → p found ≡ true
+  pub absent : found ≡ n → (i : ℕ) → i < n → p i ≡ false
+
+first-step : (p : ℕ → Bool) (n f : ℕ) (t b : Bool) → ltb f n ≡ t → p n ≡ b → First p n f → First p (suc n) (pick t f (pick b n (suc n)))
+unfolding pick
+first-step p n f true b e d h = record { le = omega arith; at = λ l. h .at (ltb-true _ _ e); absent = λ q. absurd (omega (arith, ltb-true)) }
+first-step p n f false true e d h = record { le = omega arith; at = λ l. d; absent = λ q. absurd (omega arith) }
+first-step p n f false false e d h =
+    let q : f ≡ n = omega (arith, ltb-false) in
+    record { le = omega arith; at = λ l. absurd (omega arith); absent = λ z i l. ⊎-elim (λ (r : i ≡ n). ap p r ∙ d) (λ (r : i < n). h .absent q i r) (eq-or-lt-of-le (omega arith)) }
+
+pub first-found : (p : ℕ → Bool) (n : ℕ) → First p n (firstBelow p n)
+unfolding firstBelow
+first-found p zero = record { le = omega arith; at = λ l. absurd (omega arith); absent = λ q i l. absurd (omega arith) }
+first-found p (suc n) = first-step p n (firstBelow p n) (ltb (firstBelow p n) n) (p n) refl refl (first-found p n)

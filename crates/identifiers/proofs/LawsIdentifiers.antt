@@ -1,6 +1,6 @@
 -- Written then read gives the fields back, read then written gives the number back; each rung of the checks, and the formula.
 use mathlib.Core.Path.{_≡_, refl, sym, ap, _∙_}
-use mathlib.Core.Bool.{true}
+use mathlib.Core.Bool.{Bool, true, false}
 use Prim.Native.Nat.{ℕ, _+_, _*_, _/_, _%_, _^_, _≤_, _<_}
 use native.Mathlib.Nat.{mod-eq-of-lt}
 use native.Mathlib.Omega.{arith}
@@ -9,7 +9,7 @@ use lib.Dec.{leb, ltb, eqb, lit<}
 use borrow.Author.Tests.{leb-true, leb-false, eqb-true, eqb-false, ltb-true, ltb-false, lt-leb, le-leb, le-ltb, lt-ltb, eq-eqb, ne-eqb}
 use Rattle.identifiers.specs.Choice.{pick, either}
 use Rattle.identifiers.specs.Refusals.{refusal}
-use Rattle.identifiers.specs.Identifiers.{formula, reservedBit, fieldsOf, frameRead, readOf, writtenAs, targetOf}
+use Rattle.identifiers.specs.Identifiers.{formula, reservedBit, fieldsOf, framePassing, readPassing, frameRead, readOf, writtenAs, targetOf}
 use Rattle.identifiers.specs.declared.refusal.Refusal.{Refusal}
 use Rattle.identifiers.specs.declared.identifier.Identifier.{Identifier}
 use Rattle.identifiers.specs.declared.identifier.IdentifierRead.{IdentifierRead}
@@ -18,22 +18,55 @@ use Rattle.identifiers.specs.declared.identifier.IdentifierWritten.the-v
 use Rattle.identifiers.specs.declared.identifier.Target.the-variants.{Destination, GroupExtension}
 use Rattle.identifiers.proofs.LawsChoice.{pick-true, pick-false, by-test, was-passed, right-decides, either-false}
 
--- ---- the checks of a frame, one law a rung
+-- ---- the checks of a frame, one law a rung: 2 and 3
+pub passing-2 : (n count : ℕ) → 2 ^ 29 ≤ n → framePassing n count ≡ read.Refused (refusal 2)
+unfolding framePassing
+passing-2 n count h = pick-true _ _ (le-leb _ _ h)
+
+pub passing-3 : (n count : ℕ) → n < 2 ^ 29 → 8 < count → framePassing n count ≡ read.Refused (refusal 3)
+unfolding framePassing
+passing-3 n count h l = pick-false _ _ (lt-leb _ _ h) ∙ pick-true _ _ (lt-ltb _ _ l)
+
+pub passing-fields : (n count : ℕ) → n < 2 ^ 29 → count ≤ 8 → framePassing n count ≡ read.Fields (fieldsOf n)
+unfolding framePassing
+passing-fields n count h l = pick-false _ _ (lt-leb _ _ h) ∙ pick-false _ _ (le-ltb _ _ l)
+
+-- then 4: a refusal stays, fields with R set are refused, and others stay
+pub read-refused : (n count : ℕ) (r : Refusal) → framePassing n count ≡ read.Refused r → frameRead n count ≡ read.Refused r
+unfolding frameRead readPassing
+read-refused n count r e = ap (readPassing n) e
+
+pub read-4 : (n count : ℕ) (i : Identifier) → framePassing n count ≡ read.Fields i → reservedBit n ≡ 1 → frameRead n count ≡ read.Refused (refusal 4)
+unfolding frameRead readPassing
+read-4 n count i e r = ap (readPassing n) e ∙ pick-true _ _ (eq-eqb _ _ r)
+
+pub read-fields : (n count : ℕ) (i : Identifier) → framePassing n count ≡ read.Fields i → (reservedBit n ≡ 1 → ⊥) → frameRead n count ≡ read.Fields i
+unfolding frameRead readPassing
+read-fields n count i e r = ap (readPassing n) e ∙ pick-false _ _ (ne-eqb _ _ r)
+
+-- 2, 3 and 4
 pub frame-2 : (n count : ℕ) → 2 ^ 29 ≤ n → frameRead n count ≡ read.Refused (refusal 2)
-unfolding frameRead
-frame-2 n count h = pick-true _ _ (le-leb _ _ h)
+frame-2 n count h = read-refused n count _ (passing-2 n count h)
 
 pub frame-3 : (n count : ℕ) → n < 2 ^ 29 → 8 < count → frameRead n count ≡ read.Refused (refusal 3)
-unfolding frameRead
-frame-3 n count h l = pick-false _ _ (lt-leb _ _ h) ∙ pick-true _ _ (lt-ltb _ _ l)
+frame-3 n count h l = read-refused n count _ (passing-3 n count h l)
 
 pub frame-4 : (n count : ℕ) → n < 2 ^ 29 → count ≤ 8 → reservedBit n ≡ 1 → frameRead n count ≡ read.Refused (refusal 4)
-unfolding frameRead
-frame-4 n count h l r = pick-false _ _ (lt-leb _ _ h) ∙ pick-false _ _ (le-ltb _ _ l) ∙ pick-true _ _ (eq-eqb _ _ r)
+frame-4 n count h l r = read-4 n count _ (passing-fields n count h l) r
 
 pub frame-fields : (n count : ℕ) → n < 2 ^ 29 → count ≤ 8 → (reservedBit n ≡ 1 → ⊥) → frameRead n count ≡ read.Fields (fieldsOf n)
-unfolding frameRead
-frame-fields n count h l r = pick-false _ _ (lt-leb _ _ h) ∙ pick-false _ _ (le-ltb _ _ l) ∙ pick-false _ _ (ne-eqb _ _ r)
+frame-fields n count h l r = read-fields n count _ (passing-fields n count h l) r
+
+-- all of them in one ladder
+past-refusal : (n : ℕ) (t : Bool) (r : Refusal) (next : IdentifierRead) → readPassing n (pick t (read.Refused r) next) ≡ pick t (read.Refused r) (readPassing n next)
+unfolding readPassing pick
+past-refusal n true r next = refl
+past-refusal n false r next = refl
+
+frame-ladder : (n count : ℕ) → frameRead n count
+    ≡ pick (leb (2 ^ 29) n) (read.Refused (refusal 2)) (pick (ltb 8 count) (read.Refused (refusal 3)) (pick (eqb (reservedBit n) 1) (read.Refused (refusal 4)) (read.Fields (fieldsOf n))))
+unfolding frameRead framePassing readPassing
+frame-ladder n count = past-refusal n _ _ _ ∙ ap (pick (leb (2 ^ 29) n) (read.Refused (refusal 2))) (past-refusal n _ _ _)
 
 -- a frame's number is read in one of these four ways
 pub data Reads (n count : ℕ) : IdentifierRead → Type 0 where
@@ -43,12 +76,18 @@ pub data Reads (n count : ℕ) : IdentifierRead → Type 0 where
   reads-fields : n < 2 ^ 29 → count ≤ 8 → (reservedBit n ≡ 1 → ⊥) → Reads n count (read.Fields (fieldsOf n))
 
 pub frame-reads : (n count : ℕ) → Reads n count (frameRead n count)
-unfolding frameRead
 frame-reads n count =
-    by-test {P = Reads n count} _ (λ a. record { holds = reads-2 (leb-true _ _ a) })
+    rw (frame-ladder n count) (by-test {P = Reads n count} _ (λ a. record { holds = reads-2 (leb-true _ _ a) })
     (λ a. by-test _ (λ b. record { holds = reads-3 (leb-false _ _ a) (ltb-true _ _ b) })
     (λ b. by-test _ (λ c. record { holds = reads-4 (leb-false _ _ a) (ltb-false _ _ b) (eqb-true _ _ c) })
-    (λ c. record { holds = reads-fields (leb-false _ _ a) (ltb-false _ _ b) (eqb-false _ _ c) }))) .holds
+    (λ c. record { holds = reads-fields (leb-false _ _ a) (ltb-false _ _ b) (eqb-false _ _ c) }))) .holds)
+
+-- 2 and 3 decide alone, unless they hold and R is set
+pub frame-read-passing : (n count : ℕ) → (n < 2 ^ 29 → count ≤ 8 → reservedBit n ≡ 1 → ⊥) → frameRead n count ≡ framePassing n count
+unfolding frameRead framePassing readPassing
+frame-read-passing n count h =
+    by-test {P = λ r. readPassing n r ≡ r} _ (λ a. record { holds = refl })
+    (λ a. by-test _ (λ b. record { holds = refl }) (λ b. record { holds = pick-false _ _ (ne-eqb _ _ (h (leb-false _ _ a) (ltb-false _ _ b))) })) .holds
 
 -- what a frame that was read has
 pub record Passes (n count : ℕ) (i : Identifier) : Type 0 where
@@ -61,9 +100,8 @@ not-fields : (r : Refusal) (i : Identifier) → read.Refused r ≡ read.Fields i
 not-fields r i e = let z : _≡_ {A = ℕ} 0 1 = cc in omega arith
 
 pub frame-passes : (n count : ℕ) (i : Identifier) → frameRead n count ≡ read.Fields i → Passes n count i
-unfolding frameRead
 frame-passes n count i e =
-    let a = was-passed _ _ _ _ (not-fields (refusal 2) i) e in
+    let a = was-passed _ _ _ _ (not-fields (refusal 2) i) (sym (frame-ladder n count) ∙ e) in
     let b = was-passed _ _ _ _ (not-fields (refusal 3) i) (a .1) in
     let c = was-passed _ _ _ _ (not-fields (refusal 4) i) (b .1) in
     let same : read.Fields (fieldsOf n) ≡ read.Fields i = c .1 in
@@ -71,8 +109,8 @@ frame-passes n count i e =
 
 -- the reader alone: 2, then 4
 pub read-ladder : (n : ℕ) → readOf n ≡ pick (leb (2 ^ 29) n) (read.Refused (refusal 2)) (pick (eqb (reservedBit n) 1) (read.Refused (refusal 4)) (read.Fields (fieldsOf n)))
-unfolding readOf frameRead pick
-read-ladder n = refl
+unfolding readOf pick
+read-ladder n = frame-ladder n 0
 
 -- ---- the formula: every number below 2 ^ 29 is that of its fields, each within its width
 join : (n p r d f s a x16 x24 x25 x26 : ℕ) → x16 ≡ s + a → x24 ≡ f + x16 → x25 ≡ d + x24 → x26 ≡ r + x25 → n ≡ p + x26 → p + r + d + f + s + a ≡ n

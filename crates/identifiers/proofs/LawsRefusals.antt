@@ -10,7 +10,8 @@ use Rattle.identifiers.specs.Below.{allBelow}
 use Rattle.identifiers.specs.Refusals.{refusal, numberOf}
 use Rattle.identifiers.proofs.LawsBelow.{all-at}
 use Rattle.identifiers.specs.declared.refusal.Refusal.{Refusal}
-use Rattle.identifiers.specs.declared.refusal.Refusal.the-variants.{RulesBroken, IdentifierTooLarge, TooManyDataBytes, ReservedBitSet, NotDiagnostic, NoOtherVehicle, OtherDestination, OtherUnit, Malformed, FlowControl, OverLong, NothingOpen, WrongNumber, Late, NoAddress, NotWritable, WrongLength, CodeNotHeld, StatusOutsideMask, NoReading, InputTooLong, FieldCutShort, WrongTagOrLength, WrongContent}
+use Rattle.identifiers.specs.declared.refusal.Refusal.the-variants.{RulesBroken, IdentifierTooLarge, TooManyDataBytes, ReservedBitSet, NotDiagnostic, NoOtherVehicle, OtherDestination, OtherUnit, Malformed, FlowControl, OverLong, NothingOpen}
+use Rattle.identifiers.specs.declared.refusal.Refusal.the-variants.{WrongNumber, Late, NoAddress, NotWritable, WrongLength, CodeNotHeld, StatusOutsideMask, NoReading, InputTooLong, FieldCutShort, WrongTagOrLength, WrongContent}
 
 pub refusal-of-number : (r : Refusal) → refusal (numberOf r) ≡ r
 refusal-of-number RulesBroken = refl

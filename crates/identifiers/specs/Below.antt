@@ -1,7 +1,8 @@
--- What is said of every index below a number: a test, a count, a list.
+-- What is said of every index below a number: a test, a count, a list, the first that has a property.
 use mathlib.Core.Bool.{Bool, true}
 use mathlib.Core.List.{List, [], _++_}
 use Prim.Native.Nat.{ℕ, zero, suc, _+_}
+use lib.Dec.{ltb}
 use Rattle.identifiers.specs.Choice.{pick, both}
 
 -- p holds of 0, 1, .. n - 1
@@ -18,3 +19,8 @@ countBelow p (suc n) = pick (p n) (countBelow p n + 1) (countBelow p n)
 unfoldable pub listBelow : (ℕ → List ℕ) → ℕ → List ℕ
 listBelow f zero = []
 listBelow f (suc n) = listBelow f n ++ f n
+
+-- the first of 0, 1, .. n - 1 that has p, or n where none has
+unfoldable pub firstBelow : (ℕ → Bool) → ℕ → ℕ
+firstBelow p zero = 0
+firstBelow p (suc n) = pick (ltb (firstBelow p n) n) (firstBelow p n) (pick (p n) n (suc n))

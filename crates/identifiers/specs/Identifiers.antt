@@ -30,12 +30,20 @@ fieldsOf n = record {
   source = n % 2 ^ 8;
 }
 
--- a frame's number, and how many data bytes it has: 2 "identifier 2^29 or more", 3 "more than 8 data bytes", 4 "R set"
-unfoldable pub frameRead : ℕ → ℕ → IdentifierRead
-frameRead n count =
+-- a frame's number, and how many data bytes it has: 2 "identifier 2^29 or more", 3 "more than 8 data bytes"
+unfoldable pub framePassing : ℕ → ℕ → IdentifierRead
+framePassing n count =
     pick (leb (2 ^ 29) n) (read.Refused (refusal 2))
     (pick (ltb 8 count) (read.Refused (refusal 3))
-    (pick (eqb (reservedBit n) 1) (read.Refused (refusal 4)) (read.Fields (fieldsOf n))))
+    (read.Fields (fieldsOf n)))
+
+-- 4 "R set", of a number that passes
+unfoldable pub readPassing : ℕ → IdentifierRead → IdentifierRead
+readPassing n (read.Fields i) = pick (eqb (reservedBit n) 1) (read.Refused (refusal 4)) (read.Fields i)
+readPassing n (read.Refused why) = read.Refused why
+
+unfoldable pub frameRead : ℕ → ℕ → IdentifierRead
+frameRead n count = readPassing n (framePassing n count)
 
 -- a number alone, as that of a frame without data
 unfoldable pub readOf : ℕ → IdentifierRead

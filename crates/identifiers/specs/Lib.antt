@@ -3,4 +3,5 @@ pub mod Choice
 pub mod Below
 pub mod Bytes
 pub mod Refusals
+pub mod Answers
 pub mod Identifiers

@@ -3,7 +3,8 @@ use mathlib.Core.List.{List, [], _∷_}
 use Prim.Native.Nat.{ℕ, _-_}
 use lib.ListN.{getD}
 use Rattle.identifiers.specs.declared.refusal.Refusal.{Refusal}
-use Rattle.identifiers.specs.declared.refusal.Refusal.the-variants.{RulesBroken, IdentifierTooLarge, TooManyDataBytes, ReservedBitSet, NotDiagnostic, NoOtherVehicle, OtherDestination, OtherUnit, Malformed, FlowControl, OverLong, NothingOpen, WrongNumber, Late, NoAddress, NotWritable, WrongLength, CodeNotHeld, StatusOutsideMask, NoReading, InputTooLong, FieldCutShort, WrongTagOrLength, WrongContent}
+use Rattle.identifiers.specs.declared.refusal.Refusal.the-variants.{RulesBroken, IdentifierTooLarge, TooManyDataBytes, ReservedBitSet, NotDiagnostic, NoOtherVehicle, OtherDestination, OtherUnit, Malformed, FlowControl, OverLong, NothingOpen}
+use Rattle.identifiers.specs.declared.refusal.Refusal.the-variants.{WrongNumber, Late, NoAddress, NotWritable, WrongLength, CodeNotHeld, StatusOutsideMask, NoReading, InputTooLong, FieldCutShort, WrongTagOrLength, WrongContent}
 
 -- the cases in the order of their numbers, from 1 on
 abbrev pub refusals : List Refusal

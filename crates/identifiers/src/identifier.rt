@@ -1,8 +1,21 @@
 // The 29-bit identifier: P x 2^26 + R x 2^25 + DP x 2^24 + PF x 2^16 + PS x 2^8 + SA.
 ghost use mathlib.Core.Path.{_≡_};
 ghost use lib.ListN.{length};
-ghost use Rattle.identifiers.specs.Identifiers.{frameRead, readOf, writtenAs, targetOf, readTold, writtenTold};
+ghost use Rattle.identifiers.specs.Identifiers.{framePassing, frameRead, readOf, writtenAs, targetOf, readTold, writtenTold};
 use crate::refusal::Refusal;
+
+// The first number past the 29 bits, and what P, R, DP, PF and PS weigh.
+const TOO_LARGE: u32 = 1 << 29;
+
+const P_WEIGHT: u32 = 1 << 26;
+
+const R_WEIGHT: u32 = 1 << 25;
+
+const DP_WEIGHT: u32 = 1 << 24;
+
+const PF_WEIGHT: u32 = 1 << 16;
+
+const PS_WEIGHT: u32 = 1 << 8;
 
 // P, DP, PF, PS and SA.
 #[repr(C)]
@@ -44,26 +57,37 @@ pub struct IdentifierWrittenTold {
     pub number: u32,
 }
 
-// Checks 2, 3 and 4 of a number and a count of data bytes.
-fn checked(number: u32, count: usize) -> IdentifierRead
-    ensures { λ r. ⌜ r ≡ frameRead number count ⌝ }
+// Checks 2 and 3 of a number and a count of data bytes.
+fn frame_passing(number: u32, count: usize) -> IdentifierRead
+    ensures { λ r. ⌜ r ≡ framePassing number count ⌝ }
 {
-    if 536870912 <= number {
+    if TOO_LARGE <= number {
         return IdentifierRead::Refused(Refusal::IdentifierTooLarge);
     }
     if 8 < count {
         return IdentifierRead::Refused(Refusal::TooManyDataBytes);
     }
-    if number / 33554432 % 2 == 1 {
-        return IdentifierRead::Refused(Refusal::ReservedBitSet);
-    }
     IdentifierRead::Fields(Identifier {
-        priority: (number / 67108864 % 8) as u8,
-        data_page: (number / 16777216 % 2) as u8,
-        format: (number / 65536 % 256) as u8,
-        specific: (number / 256 % 256) as u8,
+        priority: (number / P_WEIGHT % 8) as u8,
+        data_page: (number / DP_WEIGHT % 2) as u8,
+        format: (number / PF_WEIGHT % 256) as u8,
+        specific: (number / PS_WEIGHT % 256) as u8,
         source: (number % 256) as u8,
     })
+}
+
+// The same, and check 4 of a number that passes.
+fn frame_read(number: u32, count: usize) -> IdentifierRead
+    ensures { λ r. ⌜ r ≡ frameRead number count ⌝ }
+{
+    let answer = frame_passing(number, count);
+    let IdentifierRead::Fields(_) = answer else {
+        return answer;
+    };
+    if number / R_WEIGHT % 2 == 1 {
+        return IdentifierRead::Refused(Refusal::ReservedBitSet);
+    }
+    answer
 }
 
 impl Identifier {
@@ -71,14 +95,14 @@ impl Identifier {
     pub fn read(number: u32) -> IdentifierRead
         ensures { λ r. ⌜ r ≡ readOf number ⌝ }
     {
-        checked(number, 0)
+        frame_read(number, 0)
     }
 
     // The fields of a frame's number: refusal 2, then 3 for its data, then 4.
     pub fn of_frame(number: u32, data: &[u8]) -> IdentifierRead
         ensures { λ r. ⌜ r ≡ frameRead number (length (now («data» .entry))) ⌝ }
     {
-        checked(number, data.len())
+        frame_read(number, data.len())
     }
 
     // The number of the fields, with R 0: refusal 16 where P is over 7 or DP over 1.
@@ -92,10 +116,10 @@ impl Identifier {
             return IdentifierWritten::Refused(Refusal::NotWritable);
         }
         IdentifierWritten::Number(
-            self.priority as u32 * 67108864
-                + self.data_page as u32 * 16777216
-                + self.format as u32 * 65536
-                + self.specific as u32 * 256
+            self.priority as u32 * P_WEIGHT
+                + self.data_page as u32 * DP_WEIGHT
+                + self.format as u32 * PF_WEIGHT
+                + self.specific as u32 * PS_WEIGHT
                 + self.source as u32,
         )
     }

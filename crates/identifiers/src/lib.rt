@@ -1,7 +1,10 @@
-// The refusal numbers, and the 29-bit identifier: read from a number, and written from its fields.
+// The refusal numbers, the answer to what is done or refused, and the 29-bit identifier: read from a number, and written from its fields.
+mod answer;
 mod identifier;
 mod refusal;
 
+pub use answer::Answer;
+pub use answer::AnswerTold;
 pub use identifier::Identifier;
 pub use identifier::IdentifierRead;
 pub use identifier::IdentifierReadTold;

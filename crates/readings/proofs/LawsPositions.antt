@@ -17,12 +17,12 @@ use Rattle.readings.specs.declared.position.Position.the-variants.{Zero,
 use Rattle.readings.specs.declared.position.Vehicle.{Vehicle}
 use Rattle.readings.specs.declared.position.Vehicle.the-variants.{At, NoVehicle}
 use Rattle.readings.specs.declared.position.AddressTaken.the-variants.{Own, Refused}
-use Rattle.readings.specs.Positions.{placeOf, addresses, global, addressOf, positions, vehicleAmong, vehicleOf, positionAt, trailerAt, successorOf, predecessorOf, nextOf, takenAs, takenAfter}
+use Rattle.readings.specs.Positions.{placeOf, addresses, global, addressOf, positions, positionAmong, positionOf, positionAt, trailerAt, successorOf, predecessorOf, nextOf, takenAs, takenAfter}
 
 -- ---- the table of addresses, both ways
 -- the address of a position reads back to it: so no two are alike
-pub address-back : (p : Position) → vehicleOf (addressOf p) ≡ At p
-unfolding vehicleOf vehicleAmong positions addressOf addresses pick
+pub address-back : (p : Position) → positionOf (addressOf p) ≡ At p
+unfolding positionOf positionAmong positions addressOf addresses pick
 address-back Zero = refl
 address-back One = refl
 address-back Two = refl
@@ -30,27 +30,27 @@ address-back Three = refl
 address-back Four = refl
 address-back Five = refl
 
-among-only : (ps : List Position) (a : ℕ) (p : Position) → vehicleAmong ps a ≡ At p → a ≡ addressOf p
-unfolding vehicleAmong pick
+among-only : (ps : List Position) (a : ℕ) (p : Position) → positionAmong ps a ≡ At p → a ≡ addressOf p
+unfolding positionAmong pick
 among-only [] a p e = absurd (let z : _≡_ {A = ℕ} 0 1 = cc in omega arith)
 among-only (q ∷ ps) a p e = go (eqb a (addressOf q)) refl e (λ k. among-only ps a p k)
   where
-    go : (t : Bool) → eqb a (addressOf q) ≡ t → pick t (At q) (vehicleAmong ps a) ≡ At p → (vehicleAmong ps a ≡ At p → a ≡ addressOf p) → a ≡ addressOf p
+    go : (t : Bool) → eqb a (addressOf q) ≡ t → pick t (At q) (positionAmong ps a) ≡ At p → (positionAmong ps a ≡ At p → a ≡ addressOf p) → a ≡ addressOf p
     go true h k r = let same : q ≡ p = cc in eqb-true a (addressOf q) h ∙ ap addressOf same
     go false h k r = r k
 
 -- an address that reads as a position is its own
-pub address-only : (a : ℕ) (p : Position) → vehicleOf a ≡ At p → a ≡ addressOf p
-unfolding vehicleOf
+pub address-only : (a : ℕ) (p : Position) → positionOf a ≡ At p → a ≡ addressOf p
+unfolding positionOf
 address-only a p e = among-only positions a p e
 
 pub addresses-differ : (p q : Position) → addressOf p ≡ addressOf q → p ≡ q
 addresses-differ p q e =
-    let h : At p ≡ At q = sym (address-back p) ∙ ap vehicleOf e ∙ address-back q in
+    let h : At p ≡ At q = sym (address-back p) ∙ ap positionOf e ∙ address-back q in
     cc
 
-pub global-is-none : vehicleOf global ≡ NoVehicle
-unfolding vehicleOf vehicleAmong positions addressOf addresses pick
+pub global-is-none : positionOf global ≡ NoVehicle
+unfolding positionOf positionAmong positions addressOf addresses pick
 global-is-none = refl
 
 -- an address is a byte
@@ -163,15 +163,15 @@ unfolding successorOf
 predecessor-successor p q e = ap positionAt (predecessor-place p q e) ∙ place-back q
 
 -- ---- the address that a node takes
-pub after-none : (a : ℕ) → vehicleOf a ≡ NoVehicle → takenAfter a ≡ Refused (refusal 15)
+pub after-none : (a : ℕ) → positionOf a ≡ NoVehicle → takenAfter a ≡ Refused (refusal 15)
 unfolding takenAfter nextOf takenAs
 after-none a e = ap (λ (v : Vehicle). takenAs (nextOf v)) e
 
-pub after-last : (a : ℕ) (p : Position) → vehicleOf a ≡ At p → successorOf p ≡ NoVehicle → takenAfter a ≡ Refused (refusal 15)
+pub after-last : (a : ℕ) (p : Position) → positionOf a ≡ At p → successorOf p ≡ NoVehicle → takenAfter a ≡ Refused (refusal 15)
 unfolding takenAfter nextOf takenAs
 after-last a p e s = ap (λ (v : Vehicle). takenAs (nextOf v)) e ∙ ap takenAs s
 
-pub after-next : (a : ℕ) (p q : Position) → vehicleOf a ≡ At p → successorOf p ≡ At q → takenAfter a ≡ Own q
+pub after-next : (a : ℕ) (p q : Position) → positionOf a ≡ At p → successorOf p ≡ At q → takenAfter a ≡ Own q
 unfolding takenAfter nextOf takenAs
 after-next a p q e s = ap (λ (v : Vehicle). takenAs (nextOf v)) e ∙ ap takenAs s
 
@@ -183,4 +183,4 @@ only-15 NoVehicle why e = cc
 
 pub after-15 : (a : ℕ) (why : Refusal) → takenAfter a ≡ Refused why → why ≡ refusal 15
 unfolding takenAfter
-after-15 a why e = only-15 (nextOf (vehicleOf a)) why e
+after-15 a why e = only-15 (nextOf (positionOf a)) why e

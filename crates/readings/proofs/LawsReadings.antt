@@ -21,7 +21,7 @@ use Rattle.readings.specs.declared.reading.TwoBits.the-variants as bits
 use Rattle.readings.specs.declared.reading.TwoBitsRead.the-variants as two
 use Rattle.readings.specs.Fractions.{fraction, Exact}
 use Rattle.readings.specs.Kinds.{kinds, kindOf, wholeOf, Sound}
-use Rattle.readings.specs.Readings.{bare, valued, inRange, measuredBy, measuredAs, parameterOf, twoBitsOf, valueOf}
+use Rattle.readings.specs.Readings.{withoutValue, valued, inRange, measuredBy, measuredAs, parameterOf, twoBitsOf, valueOf}
 use Rattle.readings.specs.Readings.{zero as +0}
 use Rattle.readings.proofs.LawsFractions.{fraction-exact}
 use Rattle.readings.proofs.LawsWholes.{whole-is, size-sub}
@@ -53,27 +53,27 @@ module _ (k : Kind) (raw high : ℕ) where
   unfolding measuredBy
   high-value h = pick-true _ _ (le-leb _ _ h)
 
-  pub high-reserved : 250 < high → high ≤ 253 → measuredBy k raw high ≡ bare Reserved
+  pub high-reserved : 250 < high → high ≤ 253 → measuredBy k raw high ≡ withoutValue Reserved
   unfolding measuredBy
   high-reserved h l = pick-false _ _ (lt-leb _ _ h) ∙ pick-true _ _ (le-leb _ _ l)
 
-  pub high-error : high ≡ 254 → measuredBy k raw high ≡ bare Error
+  pub high-error : high ≡ 254 → measuredBy k raw high ≡ withoutValue Error
   unfolding measuredBy
   high-error h = pick-false _ _ (lt-leb high 250 (omega arith)) ∙ pick-false _ _ (lt-leb high 253 (omega arith)) ∙ pick-true _ _ (eq-eqb _ _ h)
 
-  above : 254 < high → measuredBy k raw high ≡ pick (eqb high 255) (bare NotAvailable) (parameter.Refused (refusal 20))
+  above : 254 < high → measuredBy k raw high ≡ pick (eqb high 255) (withoutValue NotAvailable) (parameter.Refused (refusal 20))
   unfolding measuredBy
   above h =
       pick-false _ _ (lt-leb high 250 (omega arith)) ∙ pick-false _ _ (lt-leb high 253 (omega arith)) ∙ pick-false _ _ (ne-eqb high 254 (λ (e : high ≡ 254). omega arith))
 
-  pub high-not-available : high ≡ 255 → measuredBy k raw high ≡ bare NotAvailable
+  pub high-not-available : high ≡ 255 → measuredBy k raw high ≡ withoutValue NotAvailable
   high-not-available h = above (omega arith) ∙ pick-true _ _ (eq-eqb _ _ h)
 
   pub high-20 : 255 < high → measuredBy k raw high ≡ parameter.Refused (refusal 20)
   high-20 h = above (omega arith) ∙ pick-false _ _ (ne-eqb high 255 (λ (e : high ≡ 255). omega arith))
 
 -- "raw 126..250 beyond range" of percent load: past the last raw number in range
-pub beyond-range : (k : Kind) (raw : ℕ) → k .last < raw → inRange k raw ≡ bare BeyondRange
+pub beyond-range : (k : Kind) (raw : ℕ) → k .last < raw → inRange k raw ≡ withoutValue BeyondRange
 unfolding inRange
 beyond-range k raw h = pick-true _ _ (lt-ltb _ _ h)
 
@@ -114,17 +114,17 @@ valued-right k S raw h =
       };
     }
 
-bare-right : (k : Kind) (raw : ℕ) (r : Reading) → valueOf r ≡ +0 → ((x : Float) → r ≡ Value x → _≡_ {A = ℕ} 0 1) → Holds (RightRead k raw) (bare r)
-unfolding bare
-bare-right k raw r z n = record { holds = record { exact = λ x e. absurd (let f : _≡_ {A = ℕ} 0 1 = n x e in omega arith); other = λ _. (refl, z) } }
+without-value-right : (k : Kind) (raw : ℕ) (r : Reading) → valueOf r ≡ +0 → ((x : Float) → r ≡ Value x → _≡_ {A = ℕ} 0 1) → Holds (RightRead k raw) (withoutValue r)
+unfolding withoutValue
+without-value-right k raw r z n = record { holds = record { exact = λ x e. absurd (let f : _≡_ {A = ℕ} 0 1 = n x e in omega arith); other = λ _. (refl, z) } }
 
 measured-right : (k : Kind) → Sound k → (raw high : ℕ) → Holds (RightRead k raw) (measuredBy k raw high)
 unfolding measuredBy inRange
 measured-right k S raw high =
-    by-test _ (λ a. by-test _ (λ b. bare-right k raw BeyondRange refl (λ x e. cc)) (λ b. valued-right k S raw (ltb-false _ _ b)))
-    (λ a. by-test _ (λ b. bare-right k raw Reserved refl (λ x e. cc))
-    (λ b. by-test _ (λ d. bare-right k raw Error refl (λ x e. cc))
-    (λ d. by-test _ (λ f. bare-right k raw NotAvailable refl (λ x e. cc)) (λ f. record { holds = refl }))))
+    by-test _ (λ a. by-test _ (λ b. without-value-right k raw BeyondRange refl (λ x e. cc)) (λ b. valued-right k S raw (ltb-false _ _ b)))
+    (λ a. by-test _ (λ b. without-value-right k raw Reserved refl (λ x e. cc))
+    (λ b. by-test _ (λ d. without-value-right k raw Error refl (λ x e. cc))
+    (λ d. by-test _ (λ f. without-value-right k raw NotAvailable refl (λ x e. cc)) (λ f. record { holds = refl }))))
 
 -- every reading of every kind
 pub readings-exact : (kind raw : ℕ) (m : Measured) → parameterOf kind raw ≡ parameter.Read m → Right (kindOf kind) raw m

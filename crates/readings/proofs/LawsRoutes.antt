@@ -23,27 +23,27 @@ use Rattle.readings.specs.declared.routing.Side.the-variants.{Predecesso
 use Rattle.readings.specs.declared.routing.Onward.{Onward}
 use Rattle.readings.specs.declared.routing.Onward.the-variants.{Nowhere, ToPredecessor, ToSuccessor}
 use Rattle.readings.specs.declared.routing.Routed.the-variants.{Passed, Neither, Refused}
-use Rattle.readings.specs.Positions.{placeOf, addressOf, global, vehicleOf}
-use Rattle.readings.specs.Routes.{ownAt, comes, named, onwardOf, passage, routedFrom, routedBy, routedRead, routedAt, routeOf, Comes, Keeps, to-own, to-all, to-group}
+use Rattle.readings.specs.Positions.{placeOf, addressOf, global, positionOf}
+use Rattle.readings.specs.Routes.{ownPosition, comesFrom, named, onwardOf, passage, routedFrom, routedBy, routedRead, routedAt, routeOf, ComesFrom, Keeps, to-own, to-all, to-group}
 
 -- ---- the route of a frame whose fields were read
 module _ (side : Side) (own : Position) (successor : Bool) (i : Identifier) where
-  pub from-none : vehicleOf (i .source) ≡ NoVehicle → routedBy side own successor i ≡ Neither
+  pub from-none : positionOf (i .source) ≡ NoVehicle → routedBy side own successor i ≡ Neither
   unfolding routedBy routedFrom
   from-none h = ap (routedFrom side own successor i) h
 
-  pub from-wrong : (p : Position) → vehicleOf (i .source) ≡ At p → comes side (placeOf own) successor (placeOf p) ≡ false → routedBy side own successor i ≡ Neither
+  pub from-wrong : (p : Position) → positionOf (i .source) ≡ At p → comesFrom side (placeOf own) successor (placeOf p) ≡ false → routedBy side own successor i ≡ Neither
   unfolding routedBy routedFrom
   from-wrong p h k = ap (routedFrom side own successor i) h ∙ pick-false _ _ k
 
-  pub from-right : (p : Position) → vehicleOf (i .source) ≡ At p → comes side (placeOf own) successor (placeOf p) ≡ true
+  pub from-right : (p : Position) → positionOf (i .source) ≡ At p → comesFrom side (placeOf own) successor (placeOf p) ≡ true
       → routedBy side own successor i ≡ Passed (passage side own successor i)
   unfolding routedBy routedFrom
   from-right p h k = ap (routedFrom side own successor i) h ∙ pick-true _ _ k
 
 -- ---- from where a frame comes rightly, and which one is kept, in the wire's numbers
-pub comes-exactly : (side : Side) (own : ℕ) (successor : Bool) (source : ℕ) → comes side own successor source ≡ true ↔ Comes side own successor source
-unfolding comes
+pub comes-exactly : (side : Side) (own : ℕ) (successor : Bool) (source : ℕ) → comesFrom side own successor source ≡ true ↔ ComesFrom side own successor source
+unfolding comesFrom
 comes-exactly Predecessor own successor source = (λ e. ltb-true _ _ e, λ h. lt-ltb _ _ h)
 comes-exactly Successor own successor source = (
   λ e. let b = both-true _ _ e in (b .0, ltb-true _ _ (b .1)),
@@ -84,15 +84,15 @@ module _ (own : Position) (n : ℕ) where
 
 -- ---- one law a rung: 1, then what the frame's reader refuses, else the route
 module _ (side : Side) (own : ℕ) (successor : Bool) (number count : ℕ) where
-  pub route-1 : ownAt own successor ≡ NoVehicle → routeOf side own successor number count ≡ Refused (refusal 1)
+  pub route-1 : ownPosition own successor ≡ NoVehicle → routeOf side own successor number count ≡ Refused (refusal 1)
   unfolding routeOf routedAt
   route-1 h = ap (routedAt side successor (frameRead number count)) h
 
-  pub route-refused : (p : Position) (why : Refusal) → ownAt own successor ≡ At p → frameRead number count ≡ read.Refused why → routeOf side own successor number count ≡ Refused why
+  pub route-refused : (p : Position) (why : Refusal) → ownPosition own successor ≡ At p → frameRead number count ≡ read.Refused why → routeOf side own successor number count ≡ Refused why
   unfolding routeOf routedAt routedRead
   route-refused p why h k = ap (routedAt side successor (frameRead number count)) h ∙ ap (routedRead side p successor) k
 
-  pub route-read : (p : Position) (i : Identifier) → ownAt own successor ≡ At p → frameRead number count ≡ read.Fields i
+  pub route-read : (p : Position) (i : Identifier) → ownPosition own successor ≡ At p → frameRead number count ≡ read.Fields i
       → routeOf side own successor number count ≡ routedBy side p successor i
   unfolding routeOf routedAt routedRead
   route-read p i h k = ap (routedAt side successor (frameRead number count)) h ∙ ap (routedRead side p successor) k
@@ -119,7 +119,7 @@ withPriority p i = record { priority = p; «data_page» = i .«data_page»; form
 
 pub priority-ignored : (side : Side) (own : Position) (successor : Bool) (i : Identifier) (p : ℕ) → routedBy side own successor (withPriority p i) ≡ routedBy side own successor i
 unfolding routedBy routedFrom passage
-priority-ignored side own successor i p = go (vehicleOf (i .source))
+priority-ignored side own successor i p = go (positionOf (i .source))
   where
     go : (v : Vehicle) → routedFrom side own successor (withPriority p i) v ≡ routedFrom side own successor i v
     go (At q) = rw (target-same (withPriority p i) i refl refl)

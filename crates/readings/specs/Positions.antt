@@ -35,12 +35,12 @@ unfoldable pub positions : List Position
 positions = Zero ∷ One ∷ Two ∷ Three ∷ Four ∷ Five ∷ []
 
 -- the first of the positions whose address it is
-unfoldable pub vehicleAmong : List Position → ℕ → Vehicle
-vehicleAmong [] address = NoVehicle
-vehicleAmong (p ∷ ps) address = pick (eqb address (addressOf p)) (At p) (vehicleAmong ps address)
+unfoldable pub positionAmong : List Position → ℕ → Vehicle
+positionAmong [] address = NoVehicle
+positionAmong (p ∷ ps) address = pick (eqb address (addressOf p)) (At p) (positionAmong ps address)
 
-unfoldable pub vehicleOf : ℕ → Vehicle
-vehicleOf address = vehicleAmong positions address
+unfoldable pub positionOf : ℕ → Vehicle
+positionOf address = positionAmong positions address
 
 -- the position of a number 0 to 5, and that of a trailer, 1 to 5
 unfoldable pub positionAt : ℕ → Vehicle
@@ -57,8 +57,8 @@ unfoldable pub predecessorOf : Position → Vehicle
 predecessorOf p = pick (eqb (placeOf p) 0) NoVehicle (positionAt (placeOf p - 1))
 
 -- "A trailer starts at position 1"
-abbrev pub startOf : Position
-startOf = One
+abbrev pub startPosition : Position
+startPosition = One
 
 -- "hands in its SA; the own position becomes the next one": of the vehicle that has the address, if there is one
 unfoldable pub nextOf : Vehicle → Vehicle
@@ -71,7 +71,7 @@ takenAs (At p) = Own p
 takenAs NoVehicle = Refused (refusal 15)
 
 unfoldable pub takenAfter : ℕ → AddressTaken
-takenAfter source = takenAs (nextOf (vehicleOf source))
+takenAfter source = takenAs (nextOf (positionOf source))
 
 -- the answer in document 01's numbers
 unfoldable pub addressTold : AddressTaken → AddressTakenTold

@@ -23,21 +23,21 @@ use Rattle.readings.specs.Fractions.{fraction}
 use Rattle.readings.specs.Kinds.{kindOf, highByte, wholeOf}
 
 -- "Both are 0 for the other outcomes"
-unfoldable pub bare : Reading → ParameterRead
-bare r = parameter.Read (record { reading = r; whole = pos 0 })
+unfoldable pub withoutValue : Reading → ParameterRead
+withoutValue r = parameter.Read (record { reading = r; whole = pos 0 })
 
 -- "The value is an f32 and exact", and "the same signed whole number is given beside it"
 unfoldable pub valued : Kind → ℕ → ParameterRead
 valued k raw = parameter.Read (record { reading = Value (fraction (wholeOf k raw) (k .divisor)); whole = wholeOf k raw })
 
 unfoldable pub inRange : Kind → ℕ → ParameterRead
-inRange k raw = pick (ltb (k .last) raw) (bare BeyondRange) (valued k raw)
+inRange k raw = pick (ltb (k .last) raw) (withoutValue BeyondRange) (valued k raw)
 
 -- "0..250 value, 251..253 reserved, 254 error, 255 not available"; 20 "raw past its one byte, two bytes"
 unfoldable pub measuredBy : Kind → ℕ → ℕ → ParameterRead
 measuredBy k raw high =
     pick (leb high 250) (inRange k raw)
-    (pick (leb high 253) (bare Reserved) (pick (eqb high 254) (bare Error) (pick (eqb high 255) (bare NotAvailable) (parameter.Refused (refusal 20)))))
+    (pick (leb high 253) (withoutValue Reserved) (pick (eqb high 254) (withoutValue Error) (pick (eqb high 255) (withoutValue NotAvailable) (parameter.Refused (refusal 20)))))
 
 unfoldable pub measuredAs : Kind → ℕ → ParameterRead
 measuredAs k raw = measuredBy k raw (highByte (k .bytes) raw)

@@ -3,7 +3,7 @@ use mathlib.Core.Path.{_≡_}
 use mathlib.Core.Bool.{Bool, true, false}
 use Prim.Native.Nat.{ℕ, _/_, _%_, _^_, _≤_, _<_}
 use lib.Dec.{ltb, eqb}
-use Rattle.identifiers.specs.Choice.{pick, both, either}
+use Rattle.identifiers.specs.Choice.{pick, unless, both, either}
 use Rattle.identifiers.specs.Refusals.{refusal, numberOf}
 use Rattle.identifiers.specs.Identifiers.{frameRead, targetOf}
 use Rattle.identifiers.specs.declared.identifier.Identifier.{Identifier}
@@ -22,17 +22,17 @@ use Rattle.readings.specs.declared.routing.Passage.{Passage}
 use Rattle.readings.specs.declared.routing.Routed.{Routed}
 use Rattle.readings.specs.declared.routing.Routed.the-variants.{Passed, Neither, Refused}
 use Rattle.readings.specs.declared.routing.RoutedTold.{RoutedTold}
-use Rattle.readings.specs.Positions.{placeOf, addressOf, global, trailerAt, vehicleOf}
+use Rattle.readings.specs.Positions.{placeOf, addressOf, global, trailerAt, positionOf}
 
 -- 1 "own position not 1..5, or 5 with a successor": otherwise the own position
-unfoldable pub ownAt : ℕ → Bool → Vehicle
-ownAt own successor = pick (both (eqb own 5) successor) NoVehicle (trailerAt own)
+unfoldable pub ownPosition : ℕ → Bool → Vehicle
+ownPosition own successor = pick (both (eqb own 5) successor) NoVehicle (trailerAt own)
 
 -- "from the predecessor, SA's position must be lower than the own; from the successor, higher", and
 -- "a frame that claims to come from the successor where none exists is neither"
-unfoldable pub comes : Side → ℕ → Bool → ℕ → Bool
-comes Predecessor own successor source = ltb source own
-comes Successor own successor source = both successor (ltb own source)
+unfoldable pub comesFrom : Side → ℕ → Bool → ℕ → Bool
+comesFrom Predecessor own successor source = ltb source own
+comesFrom Successor own successor source = both successor (ltb own source)
 
 -- "It is kept when the destination is the own address or FF, or PF is 240 or more"
 unfoldable pub named : ℕ → Target → Bool
@@ -49,11 +49,11 @@ passage side own successor i = record { kept = named (addressOf own) (targetOf i
 
 -- "Else, and for an SA that is no vehicle, it is neither kept nor sent on"
 unfoldable pub routedFrom : Side → Position → Bool → Identifier → Vehicle → Routed
-routedFrom side own successor i (At source) = pick (comes side (placeOf own) successor (placeOf source)) (Passed (passage side own successor i)) Neither
+routedFrom side own successor i (At source) = unless (comesFrom side (placeOf own) successor (placeOf source)) Neither (Passed (passage side own successor i))
 routedFrom side own successor i NoVehicle = Neither
 
 unfoldable pub routedBy : Side → Position → Bool → Identifier → Routed
-routedBy side own successor i = routedFrom side own successor i (vehicleOf (i .source))
+routedBy side own successor i = routedFrom side own successor i (positionOf (i .source))
 
 -- 2, 3 and 4 of the frame, and else its route
 unfoldable pub routedRead : Side → Position → Bool → IdentifierRead → Routed
@@ -66,7 +66,7 @@ routedAt side successor answer NoVehicle = Refused (refusal 1)
 
 -- a frame from a side, by the own position, whether a successor exists, the frame's number and how many data bytes it has
 unfoldable pub routeOf : Side → ℕ → Bool → ℕ → ℕ → Routed
-routeOf side own successor number count = routedAt side successor (frameRead number count) (ownAt own successor)
+routeOf side own successor number count = routedAt side successor (frameRead number count) (ownPosition own successor)
 
 -- the answer in document 01's numbers; sent on: 0 nowhere, 1 to the predecessor, 2 to the successor
 abbrev pub onwardNumber : Onward → ℕ
@@ -81,9 +81,9 @@ routedTold (Refused why) = record { refusal = numberOf why; kept = false; onward
 
 -- ---- the same in the wire's numbers, for a reader
 -- "from the predecessor, SA's position must be lower than the own; from the successor", which must exist, "higher"
-abbrev pub Comes : Side → ℕ → Bool → ℕ → Type 0
-Comes Predecessor own successor source = source < own
-Comes Successor own successor source = (successor ≡ true) × (own < source)
+abbrev pub ComesFrom : Side → ℕ → Bool → ℕ → Type 0
+ComesFrom Predecessor own successor source = source < own
+ComesFrom Successor own successor source = (successor ≡ true) × (own < source)
 
 -- "It is kept when the destination is the own address or FF, or PF is 240 or more": of an identifier's number
 pub data Keeps (own : Position) (n : ℕ) : Type 0 where

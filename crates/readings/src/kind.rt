@@ -69,12 +69,12 @@ impl Kind {
         last: 64255,
     };
 
-    // The row of a kind 0 to 7.
-    pub fn row(kind: u8) -> Kind
-        requires { ⌜ kind ≤ 7 ⌝ }
-        ensures { λ r. ⌜ r ≡ kindOf kind ⌝ }
+    // The kind of a number 0 to 7.
+    pub fn of_number(number: u8) -> Kind
+        requires { ⌜ number ≤ 7 ⌝ }
+        ensures { λ r. ⌜ r ≡ kindOf number ⌝ }
     {
-        match kind {
+        match number {
             0 => Kind::GEAR,
             1 => Kind::PERCENT_TORQUE,
             2 => Kind::PERCENT_LOAD,

@@ -1,6 +1,6 @@
 // The positions of a road train: their addresses, their neighbours, and the address that a node takes.
 ghost use mathlib.Core.Path.{_≡_};
-ghost use Rattle.readings.specs.Positions.{placeOf, addressOf, positionAt, trailerAt, vehicleOf, successorOf, predecessorOf, startOf, takenAfter, addressTold};
+ghost use Rattle.readings.specs.Positions.{placeOf, addressOf, positionAt, trailerAt, positionOf, successorOf, predecessorOf, startPosition, takenAfter, addressTold};
 use identifiers::Refusal;
 
 pub enum Position {
@@ -50,13 +50,13 @@ impl Position {
 
     // Where a trailer starts.
     pub fn start() -> Position
-        ensures { λ r. ⌜ r ≡ startOf ⌝ }
+        ensures { λ r. ⌜ r ≡ startPosition ⌝ }
     {
         Position::START
     }
 
     pub fn of_address(address: u8) -> Vehicle
-        ensures { λ r. ⌜ r ≡ vehicleOf address ⌝ }
+        ensures { λ r. ⌜ r ≡ positionOf address ⌝ }
     {
         match address {
             Position::ZERO => Vehicle::At(Position::Zero),

@@ -1,7 +1,7 @@
 // What a raw number of a kind says, and what two bits say.
 ghost use mathlib.Core.Path.{_≡_};
-ghost use Rattle.readings.specs.Kinds.{kindOf, Sound};
-ghost use Rattle.readings.specs.Readings.{bare, inRange, measuredAs, parameterOf, twoBitsOf, outcomeOf, valueOf, twoBitsNumber, parameterTold, twoBitsTold};
+ghost use Rattle.readings.specs.Kinds.{Sound};
+ghost use Rattle.readings.specs.Readings.{withoutValue, inRange, measuredAs, parameterOf, twoBitsOf, outcomeOf, valueOf, twoBitsNumber, parameterTold, twoBitsTold};
 use crate::kind::Kind;
 use crate::kind::high_byte;
 use crate::kind::physical;
@@ -57,7 +57,7 @@ pub struct TwoBitsReadTold {
 }
 
 fn without_value(reading: Reading) -> ParameterRead
-    ensures { λ r. ⌜ r ≡ bare reading ⌝ }
+    ensures { λ r. ⌜ r ≡ withoutValue reading ⌝ }
 {
     ParameterRead::Read(Measured { reading, whole: 0 })
 }
@@ -78,7 +78,7 @@ fn in_range(kind: Kind, raw: u32) -> ParameterRead
     })
 }
 
-fn by_high_byte(kind: Kind, raw: u32) -> ParameterRead
+fn measure(kind: Kind, raw: u32) -> ParameterRead
     requires { ⌜ Sound kind ⌝ }
     ensures { λ r. ⌜ r ≡ measuredAs kind raw ⌝ }
 {
@@ -105,7 +105,7 @@ pub fn read_parameter(kind: u8, raw: u32) -> ParameterRead
     if 7 < kind {
         return ParameterRead::Refused(Refusal::NoReading);
     }
-    by_high_byte(Kind::row(kind), raw)
+    measure(Kind::of_number(kind), raw)
 }
 
 // The reading of two bits: refusal 20 over 3.

@@ -1,8 +1,7 @@
 // The route of a frame: whether it is kept, and to which side it is sent on.
 ghost use mathlib.Core.Path.{_≡_};
 ghost use lib.ListN.{length};
-ghost use Rattle.readings.specs.Positions.{placeOf};
-ghost use Rattle.readings.specs.Routes.{ownAt, comes, named, onwardOf, routedBy, routeOf, routedTold, onwardNumber};
+ghost use Rattle.readings.specs.Routes.{ownPosition, comesFrom, named, onwardOf, routedBy, routeOf, routedTold, onwardNumber};
 use crate::position::Position;
 use crate::position::Vehicle;
 use identifiers::Identifier;
@@ -44,7 +43,7 @@ pub struct RoutedTold {
 
 // The own position, where it is 1 to 5 and no successor stands behind position 5.
 fn own_position(own: u8, successor: bool) -> Vehicle
-    ensures { λ r. ⌜ r ≡ ownAt own successor ⌝ }
+    ensures { λ r. ⌜ r ≡ ownPosition own successor ⌝ }
 {
     if (own == 5) & successor {
         return Vehicle::NoVehicle;
@@ -54,7 +53,7 @@ fn own_position(own: u8, successor: bool) -> Vehicle
 
 // From the predecessor the source is lower, from the successor, which must exist, it is higher.
 fn comes_from(side: Side, own: u8, successor: bool, source: u8) -> bool
-    ensures { λ r. ⌜ r ≡ comes side own successor source ⌝ }
+    ensures { λ r. ⌜ r ≡ comesFrom side own successor source ⌝ }
 {
     match side {
         Side::Predecessor => source < own,
@@ -73,7 +72,7 @@ fn names(own: u8, target: Target) -> bool
 }
 
 // To the other side, where a neighbour exists: the predecessor always does.
-fn sent_on(side: Side, successor: bool) -> Onward
+fn onward_of(side: Side, successor: bool) -> Onward
     ensures { λ r. ⌜ r ≡ onwardOf side successor ⌝ }
 {
     match side {
@@ -88,7 +87,7 @@ fn sent_on(side: Side, successor: bool) -> Onward
     }
 }
 
-fn passed_by(side: Side, own: Position, successor: bool, fields: Identifier) -> Routed
+fn routed_by(side: Side, own: Position, successor: bool, fields: Identifier) -> Routed
     ensures { λ r. ⌜ r ≡ routedBy side own successor fields ⌝ }
 {
     let Vehicle::At(source) = Position::of_address(fields.source) else {
@@ -97,7 +96,7 @@ fn passed_by(side: Side, own: Position, successor: bool, fields: Identifier) -> 
     if comes_from(side, own.place(), successor, source.place()) {
         Routed::Passed(Passage {
             kept: names(own.address(), fields.target()),
-            onward: sent_on(side, successor),
+            onward: onward_of(side, successor),
         })
     } else {
         Routed::Neither
@@ -118,7 +117,7 @@ pub fn route(side: Side, own: u8, successor: bool, number: u32, data: &[u8]) -> 
         };
         return Routed::Refused(why);
     };
-    passed_by(side, position, successor, fields)
+    routed_by(side, position, successor, fields)
 }
 
 impl Onward {

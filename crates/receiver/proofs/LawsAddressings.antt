@@ -15,7 +15,7 @@ use Rattle.identifiers.specs.declared.identifier.Identifier.{Identifier}
 use Rattle.identifiers.specs.declared.identifier.IdentifierRead.{IdentifierRead}
 use Rattle.identifiers.proofs.LawsChoice.{Holds, by-test, pick-true, pick-false, both-true, both-false, stop, so, right-decides}
 use Rattle.identifiers.proofs.LawsIdentifiers.{Reads, reads-2, reads-3, reads-4, reads-fields, frame-reads, frame-2, frame-3, frame-4, frame-fields}
-use Rattle.readings.specs.Positions.{placeOf, addressOf, vehicleOf}
+use Rattle.readings.specs.Positions.{placeOf, addressOf, positionOf}
 use Rattle.readings.specs.declared.position.Position.{Position}
 use Rattle.readings.specs.declared.position.Vehicle.{Vehicle}
 use Rattle.readings.specs.declared.position.Vehicle.the-variants.{At, NoVehicle}
@@ -71,7 +71,7 @@ module _ (own : Position) (unit n : ℕ) (bytes : List ℕ) where
       record { range = r .range; count = r .count; reserved = r .reserved; page = d .page; format = d .format; source = x .source; other = x .other; specific = s; own-unit = u }
 
   module _ (r : Readable n bytes) where
-    fair-from : diagnostic i ≡ true → (v : Vehicle) → vehicleOf (i .source) ≡ v → Fairly (addressedFrom own unit i bytes v)
+    fair-from : diagnostic i ≡ true → (v : Vehicle) → positionOf (i .source) ≡ v → Fairly (addressedFrom own unit i bytes v)
     unfolding addressedFrom diagnostic destinationOf unitIs
     fair-from d v s = by v s
       where
@@ -81,8 +81,8 @@ module _ (own : Position) (unit n : ℕ) (bytes : List ℕ) where
         x : Diagnostic n bytes (eqb (i .format) 205)
         x = record { readable = r; page = eqb-true _ _ (k .0); format = format-is (i .format) _ refl (k .1) }
 
-        by : (v : Vehicle) → vehicleOf (i .source) ≡ v → Fairly (addressedFrom own unit i bytes v)
-        by NoVehicle s = refused (names-6 x (no-vehicle (λ q (e : i .source ≡ addressOf q). not-none q (sym s ∙ ap vehicleOf e ∙ address-back q))))
+        by : (v : Vehicle) → positionOf (i .source) ≡ v → Fairly (addressedFrom own unit i bytes v)
+        by NoVehicle s = refused (names-6 x (no-vehicle (λ q (e : i .source ≡ addressOf q). not-none q (sym s ∙ ap positionOf e ∙ address-back q))))
         by (At p) s =
             let from : i .source ≡ addressOf p = address-only _ p s in
             by-test _ (λ e. refused (names-6 x (own-address (from ∙ ap addressOf (places-differ p own (eqb-true _ _ e))))))
@@ -94,7 +94,7 @@ module _ (own : Position) (unit n : ℕ) (bytes : List ℕ) where
 
     fair-by : Fairly (addressedBy own unit i bytes)
     unfolding addressedBy diagnostic
-    fair-by = by-test _ (λ e. fair-from e (vehicleOf (i .source)) refl) (λ e. refused (names-5 r (wrong-format n _ _ _ refl refl refl e)))
+    fair-by = by-test _ (λ e. fair-from e (positionOf (i .source)) refl) (λ e. refused (names-5 r (wrong-format n _ _ _ refl refl refl e)))
 
   fair-read : {r : IdentifierRead} → Reads n (length bytes) r → FairAddressing own unit n bytes (addressedRead own unit bytes r)
   unfolding addressedRead
@@ -128,12 +128,12 @@ module _ (own : Position) (unit n : ℕ) (bytes : List ℕ) where
   not-unit (no-unit x) = sym (stop _ (lt-leb _ _ x))
   not-unit (another a b) = ap (both _) (ne-eqb _ _ b) ∙ both-false _
 
-  from-none : (v : Vehicle) → vehicleOf (i .source) ≡ v → NoOtherVehicle own n → addressedFrom own unit i bytes v ≡ Refused (refusal 6)
+  from-none : (v : Vehicle) → positionOf (i .source) ≡ v → NoOtherVehicle own n → addressedFrom own unit i bytes v ≡ Refused (refusal 6)
   unfolding addressedFrom
   from-none NoVehicle e x = refl
   from-none (At p) e (no-vehicle x) = absurd (x p (address-only _ p e))
   from-none (At p) e (own-address x) =
-      let same : At p ≡ At own = sym e ∙ ap vehicleOf x ∙ address-back own in
+      let same : At p ≡ At own = sym e ∙ ap positionOf x ∙ address-back own in
       let place : placeOf p ≡ placeOf own = ap placeOf {x = p} {y = own} (cc) in
       pick-true _ _ (eq-eqb _ _ place)
 
@@ -142,7 +142,7 @@ module _ (own : Position) (unit n : ℕ) (bytes : List ℕ) where
   unfolding addressingOf addressedRead
   to-4 r = ap (addressedRead own unit bytes) (frame-fields n (length bytes) (r .range) (r .count) (r .reserved))
 
-  to-5 : {functional : Bool} → Diagnostic n bytes functional → addressingOf own unit n bytes ≡ addressedFrom own unit i bytes (vehicleOf (i .source))
+  to-5 : {functional : Bool} → Diagnostic n bytes functional → addressingOf own unit n bytes ≡ addressedFrom own unit i bytes (positionOf (i .source))
   unfolding addressedBy
   to-5 {functional} d = to-4 (d .readable) ∙ pick-true _ _ (is-diagnostic functional (d .page) (d .format))
 
@@ -151,7 +151,7 @@ module _ (own : Position) (unit n : ℕ) (bytes : List ℕ) where
   unfolding addressedFrom destinationOf
   to-6 {p} {functional} x =
       to-5 (x .diagnostic)
-      ∙ ap (addressedFrom own unit i bytes) (ap vehicleOf (x .source) ∙ address-back p)
+      ∙ ap (addressedFrom own unit i bytes) (ap positionOf (x .source) ∙ address-back p)
       ∙ rw (is-205 functional (x .diagnostic .format)) (pick-false _ _ (ne-eqb _ _ (x .other)))
 
   so-addressed : (p : Position) (functional : Bool) → Addressed own unit n bytes p functional → addressingOf own unit n bytes ≡ From p functional

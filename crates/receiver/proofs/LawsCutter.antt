@@ -16,7 +16,7 @@ use Rattle.readings.specs.declared.position.Position.{Position}
 use Rattle.readings.specs.declared.position.Vehicle.{Vehicle}
 use Rattle.readings.specs.declared.position.Vehicle.the-variants.{At, NoVehicle}
 use Rattle.readings.proofs.LawsPositions.{position-past, position-none}
-use Rattle.receiver.specs.declared.node.Answer.the-variants.{Done, Refused}
+use Rattle.identifiers.specs.declared.answer.Answer.the-variants.{Done, Refused}
 use Rattle.receiver.specs.declared.cutter.FrameCut.{FrameCut}
 use Rattle.receiver.specs.declared.outcome.Control.{Control}
 use Rattle.receiver.specs.Cuts.{frameCount, noFrame, cutTold, pieceOf, between, cutOf, flowControlOf, Uncut, empty, too-long, past-last, no-sender, no-receiver, same-position}

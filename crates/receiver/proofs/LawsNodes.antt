@@ -16,7 +16,7 @@ use Rattle.readings.specs.declared.position.AddressTaken.the-variants.{Own, Ref
 use Rattle.readings.proofs.LawsPositions.{trailer-back, trailer-no, after-15}
 use Rattle.receiver.specs.declared.reception.Reception.{Reception}
 use Rattle.receiver.specs.declared.node.Node.{Node}
-use Rattle.receiver.specs.declared.node.Answer.the-variants.{Done}
+use Rattle.identifiers.specs.declared.answer.Answer.the-variants.{Done}
 use Rattle.receiver.specs.Receptions.{closed}
 use Rattle.receiver.specs.Nodes.{receptionAt, withReception, soundNode, freshNode, startOf, freshOf, madeAt, done, unchanged, takenTo, takenBy}
 

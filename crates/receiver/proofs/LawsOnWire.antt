@@ -20,7 +20,7 @@ use Rattle.identifiers.proofs.LawsIdentifiers.{Widths, formula-range, formula-r
 use Rattle.readings.specs.Positions.{placeOf}
 use Rattle.readings.specs.declared.position.Position.{Position}
 use Rattle.readings.proofs.LawsPositions.{place-back, address-byte}
-use Rattle.receiver.specs.declared.node.Answer.the-variants.{Done}
+use Rattle.identifiers.specs.declared.answer.Answer.the-variants.{Done}
 use Rattle.receiver.specs.declared.cutter.FrameCut.{FrameCut}
 use Rattle.receiver.specs.declared.outcome.Control.{Control}
 use Rattle.receiver.specs.declared.outcome.Control.the-variants.{Continue, Overflow}

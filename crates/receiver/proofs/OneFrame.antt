@@ -13,7 +13,7 @@ use Rattle.identifiers.specs.declared.refusal.Refusal.{Refusal}
 use Rattle.identifiers.proofs.LawsChoice.{Holds, by-test, pick-true, pick-false, right-decides}
 use Rattle.identifiers.proofs.LawsBytes.{written-none}
 use Rattle.identifiers.proofs.LawsIdentifiers.{source-is}
-use Rattle.readings.specs.Positions.{placeOf, vehicleOf}
+use Rattle.readings.specs.Positions.{placeOf, positionOf}
 use Rattle.readings.specs.declared.position.Position.{Position}
 use Rattle.readings.specs.declared.position.Vehicle.{Vehicle}
 use Rattle.readings.specs.declared.position.Vehicle.the-variants.{At, NoVehicle}
@@ -92,7 +92,7 @@ nothing-written buffer s bytes a b c = rw (a, b, c) (written-none buffer 0)
 
 module _ (n : Node) (buffer : List ℕ) (identifier : ℕ) (bytes : List ℕ) (stamp number : ℕ) (some : number ≢ 0) where
   -- a step of the vehicle p, whose address is the frame's SA
-  module _ (p : Position) (by-source : vehicleOf (identifier % 2 ^ 8) ≡ At p) (s : Step) where
+  module _ (p : Position) (by-source : positionOf (identifier % 2 ^ 8) ≡ At p) (s : Step) where
     abbrev Left : Type 0
     Left = Leaves n buffer identifier number (withReception n (placeOf p) (s .reception)) (writtenBy buffer s bytes)
 
@@ -122,8 +122,8 @@ module _ (n : Node) (buffer : List ℕ) (identifier : ℕ) (bytes : List ℕ) (s
   as-found : number ≤ 10 → Leaves n buffer identifier number n buffer
   as-found h = record { buffer-stays = refl; node-stays = λ e. refl; node-closes = λ e. absurd (false≢true (sym (low-keeps number h) ∙ e)) }
 
-  source : {own : Position} {unit : ℕ} {p : Position} {functional : Bool} → Addressed own unit identifier bytes p functional → vehicleOf (identifier % 2 ^ 8) ≡ At p
-  source {p = p} a = ap vehicleOf (sym (source-is identifier) ∙ a .source) ∙ address-back p
+  source : {own : Position} {unit : ℕ} {p : Position} {functional : Bool} → Addressed own unit identifier bytes p functional → positionOf (identifier % 2 ^ 8) ≡ At p
+  source {p = p} a = ap positionOf (sym (source-is identifier) ∙ a .source) ∙ address-back p
 
   abbrev stepFrom : ℕ → Judged → Step
   stepFrom place j = stepOf (receptionAt n place) j (length bytes) stamp
@@ -131,7 +131,7 @@ module _ (n : Node) (buffer : List ℕ) (identifier : ℕ) (bytes : List ℕ) (s
   abbrev LeavesBy : ℕ → Step → Type 0
   LeavesBy place s = outcomeTold (s .outcome) .refusal ≡ number → Leaves n buffer identifier number (withReception n place (s .reception)) (writtenBy buffer s bytes)
 
-  of-vehicle : (own p : Position) (j : Judged) → judgedOf own (n .unit) identifier bytes ≡ j → vehicleOf (identifier % 2 ^ 8) ≡ At p → LeavesBy (placeOf p) (stepFrom (placeOf p) j)
+  of-vehicle : (own p : Position) (j : Judged) → judgedOf own (n .unit) identifier bytes ≡ j → positionOf (identifier % 2 ^ 8) ≡ At p → LeavesBy (placeOf p) (stepFrom (placeOf p) j)
   of-vehicle own p j f by-source =
       let s = stepFrom (placeOf p) j in
       step-leaves p by-source s (s .outcome) (changes-judged (receptionAt n (placeOf p)) bytes stamp own (n .unit) identifier j f)

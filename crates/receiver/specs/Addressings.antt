@@ -10,7 +10,7 @@ use Rattle.identifiers.specs.Identifiers.{frameRead}
 use Rattle.identifiers.specs.declared.identifier.Identifier.{Identifier}
 use Rattle.identifiers.specs.declared.identifier.IdentifierRead.{IdentifierRead}
 use Rattle.identifiers.specs.declared.identifier.IdentifierRead.the-variants as read
-use Rattle.readings.specs.Positions.{placeOf, addressOf, global, vehicleOf}
+use Rattle.readings.specs.Positions.{placeOf, addressOf, global, positionOf}
 use Rattle.readings.specs.declared.position.Position.{Position}
 use Rattle.readings.specs.declared.position.Vehicle.{Vehicle}
 use Rattle.readings.specs.declared.position.Vehicle.the-variants.{At, NoVehicle}
@@ -40,7 +40,7 @@ addressedFrom own unit i bytes (At from) =
 
 -- 5 "not diagnostic (DP, PF)", then 6 to 8
 unfoldable pub addressedBy : Position → ℕ → Identifier → List ℕ → Addressing
-addressedBy own unit i bytes = unless (diagnostic i) (Refused (refusal 5)) (addressedFrom own unit i bytes (vehicleOf (i .source)))
+addressedBy own unit i bytes = unless (diagnostic i) (Refused (refusal 5)) (addressedFrom own unit i bytes (positionOf (i .source)))
 
 -- 2, 3 and 4 of the frame, then 5 to 8
 unfoldable pub addressedRead : Position → ℕ → List ℕ → IdentifierRead → Addressing

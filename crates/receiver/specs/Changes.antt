@@ -7,7 +7,7 @@ use lib.Dec.{eqb}
 use lib.ListN.{getD}
 use Rattle.identifiers.specs.Choice.{pick, either}
 use Rattle.identifiers.specs.Refusals.{numberOf}
-use Rattle.readings.specs.Positions.{placeOf, vehicleOf}
+use Rattle.readings.specs.Positions.{placeOf, positionOf}
 use Rattle.readings.specs.declared.position.Position.{Position}
 use Rattle.readings.specs.declared.position.Vehicle.the-variants.{At}
 use Rattle.receiver.specs.declared.reception.Reception.{Reception}
@@ -41,7 +41,7 @@ Changes r bytes stamp s (Train from L) = Does s (regionAt from + doneOf r) 2 (le
 -- "that vehicle's reception": of the vehicle whose address is the frame's SA; it is closed, and nothing else of the node changes
 pub record ClosedFor (n : Node) (identifier : ℕ) (node : Node) : Type 0 where
   pub vehicle : Position
-  pub by-source : vehicleOf (identifier % 2 ^ 8) ≡ At vehicle
+  pub by-source : positionOf (identifier % 2 ^ 8) ≡ At vehicle
   pub closed-there : node ≡ withReception n (placeOf vehicle) closed
 
 -- what a refusal with this number leaves of a node found as n and a buffer found as b

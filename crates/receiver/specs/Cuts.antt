@@ -11,16 +11,16 @@ use Rattle.identifiers.specs.Identifiers.{writtenAs}
 use Rattle.identifiers.specs.declared.identifier.Identifier.{Identifier}
 use Rattle.identifiers.specs.declared.identifier.IdentifierWritten.{IdentifierWritten}
 use Rattle.identifiers.specs.declared.identifier.IdentifierWritten.the-variants as written
+use Rattle.identifiers.specs.Answers.{answerNumber}
 use Rattle.readings.specs.Positions.{addressOf, positionAt}
 use Rattle.readings.specs.declared.position.Position.{Position}
 use Rattle.readings.specs.declared.position.Vehicle.{Vehicle}
 use Rattle.readings.specs.declared.position.Vehicle.the-variants.{At, NoVehicle}
-use Rattle.receiver.specs.declared.node.Answer.the-variants.{Done, Refused}
+use Rattle.identifiers.specs.declared.answer.Answer.the-variants.{Done, Refused}
 use Rattle.receiver.specs.declared.cutter.FrameCut.{FrameCut}
 use Rattle.receiver.specs.declared.cutter.FrameCutTold.{FrameCutTold}
 use Rattle.receiver.specs.declared.outcome.Control.{Control}
 use Rattle.receiver.specs.declared.outcome.Control.the-variants.{Continue, Overflow}
-use Rattle.receiver.specs.Nodes.{answerNumber}
 use Rattle.receiver.specs.Frames.{Frame}
 
 -- "one single frame up to 6 bytes, else a first frame and consecutive frames 1 to ceiling((L-5)/6)"; none for 0 or over 255

@@ -5,7 +5,7 @@ use lib.Dec.{leb, eqb}
 use lib.ListN.{getD, set, replicate}
 use Rattle.identifiers.specs.Choice.{pick, both}
 use Rattle.identifiers.specs.Below.{allBelow}
-use Rattle.identifiers.specs.Refusals.{refusal, numberOf}
+use Rattle.identifiers.specs.Refusals.{refusal}
 use Rattle.identifiers.specs.declared.refusal.Refusal.{Refusal}
 use Rattle.readings.specs.Positions.{placeOf, trailerAt, takenAfter}
 use Rattle.readings.specs.declared.position.Vehicle.{Vehicle}
@@ -14,8 +14,7 @@ use Rattle.readings.specs.declared.position.AddressTaken.{AddressTaken}
 use Rattle.readings.specs.declared.position.AddressTaken.the-variants as address
 use Rattle.receiver.specs.declared.reception.Reception.{Reception}
 use Rattle.receiver.specs.declared.node.Node.{Node}
-use Rattle.receiver.specs.declared.node.Answer.{Answer}
-use Rattle.receiver.specs.declared.node.Answer.the-variants.{Done, Refused}
+use Rattle.identifiers.specs.declared.answer.Answer.the-variants.{Done, Refused}
 use Rattle.receiver.specs.declared.node.Changed.{Changed}
 use Rattle.receiver.specs.Receptions.{closed, soundReception}
 
@@ -67,8 +66,3 @@ takenTo n (address.Refused why) = unchanged n why
 
 unfoldable pub takenBy : Node → ℕ → Changed
 takenBy n source = pick (soundNode n) (takenTo n (takenAfter source)) (unchanged n (refusal 1))
-
--- the answer in document 01's numbers
-abbrev pub answerNumber : Answer → ℕ
-answerNumber Done = 0
-answerNumber (Refused why) = numberOf why

@@ -15,7 +15,6 @@ pub use cutter::FrameCutTold;
 pub use cutter::cut;
 pub use cutter::flow_control;
 pub use cutter::frame_count;
-pub use node::Answer;
 pub use node::Changed;
 pub use node::Node;
 pub use node::fresh;

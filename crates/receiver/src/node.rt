@@ -1,7 +1,8 @@
 // The node's state, by value: own position, unit, and a reception for each of positions 0 to 5.
 ghost use mathlib.Core.Path.{_≡_};
-ghost use Rattle.receiver.specs.Nodes.{soundInFront, soundBehind, soundNode, freshNode, startOf, unchanged, freshOf, takenBy, answerNumber};
+ghost use Rattle.receiver.specs.Nodes.{soundInFront, soundBehind, soundNode, freshNode, startOf, unchanged, freshOf, takenBy};
 use crate::reception::Reception;
+use identifiers::Answer;
 use identifiers::Refusal;
 use readings::AddressTaken;
 use readings::Position;
@@ -14,27 +15,10 @@ pub struct Node {
     pub receptions: [Reception; 6],
 }
 
-pub enum Answer {
-    Done,
-    Refused(Refusal),
-}
-
 // A node, and whether it was made or changed as asked.
 pub struct Changed {
     pub node: Node,
     pub answer: Answer,
-}
-
-impl Answer {
-    // The refusal's number, 0 for none.
-    pub fn number(self) -> u8
-        ensures { λ r. ⌜ r ≡ answerNumber self ⌝ }
-    {
-        match self {
-            Answer::Done => 0,
-            Answer::Refused(why) => why.number(),
-        }
-    }
 }
 
 // The state keeps its rules, in two halves, each small enough to be compiled into its caller: the own position and the receptions of positions 0 to 2.

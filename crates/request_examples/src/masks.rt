@@ -2,18 +2,18 @@
 ghost use mathlib.Core.Path.{_≡_};
 ghost use Prim.Native.Nat.{_≤_};
 ghost use Rattle.identifiers.specs.Choice.{pick};
-ghost use Rattle.server.specs.Mask.{maskKept};
+ghost use Rattle.server.specs.Mask.{soundMask};
 use lines::decimal;
 use lines::hex;
 use lines::newline;
 use lines::say;
-use server::mask_kept;
+use server::sound_mask;
 
 // A mask that keeps the rule is said, and counts 1.
 fn kept(mask: u8) -> usize
-    ensures { λ r. ⌜ (r ≡ pick (maskKept mask) 1 0) × (r ≤ 1) ⌝ }
+    ensures { λ r. ⌜ (r ≡ pick (soundMask mask) 1 0) × (r ≤ 1) ⌝ }
 {
-    if mask_kept(mask) {
+    if sound_mask(mask) {
         say(b" ");
         hex(mask);
         return 1;

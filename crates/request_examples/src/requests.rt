@@ -1,7 +1,7 @@
 // Requests at the limits of their services: numbers, sub-functions, lengths, silence, and what clearing changes.
 ghost use mathlib.Core.Path.{_≡_};
 ghost use mathlib.Core.Bool.{false};
-ghost use Rattle.server.specs.Server.{outcomeOf};
+ghost use Rattle.server.specs.Server.{servedOf};
 use crate::trailer::asked;
 use crate::trailer::faulty;
 use lines::decimal;
@@ -114,7 +114,7 @@ fn clearing() {
 }
 
 fn sized(record: TrailerRecord, request: &[u8], response: &mut [u8])
-    ensures { λ _. ⌜ now (response .exit) ≡ outcomeOf «record» (now (request .entry)) false (now (response .entry)) .response ⌝ }
+    ensures { λ _. ⌜ now (response .exit) ≡ servedOf «record» (now (request .entry)) false (now (response .entry)) .response ⌝ }
 {
     say(b"request of ");
     decimal(request.len());
@@ -122,8 +122,8 @@ fn sized(record: TrailerRecord, request: &[u8], response: &mut [u8])
     decimal(response.len());
     say(b": ");
     let served = serve(record, request, false, response);
-    let answer = served.answer;
-    let told = answer.told();
+    let reply = served.reply;
+    let told = reply.told();
     if refused(told.refusal) {
         return;
     }

@@ -2,13 +2,13 @@
 ghost use mathlib.Core.Path.{_≡_};
 ghost use mathlib.Core.List.{[], _∷_};
 ghost use lib.ListN.{take, replicate};
-ghost use Rattle.server.specs.Server.{outcomeOf};
+ghost use Rattle.server.specs.Server.{servedOf};
 use lines::bytes;
 use lines::decimal;
 use lines::front;
 use lines::newline;
 use lines::say;
-use server::AnswerTold;
+use server::ReplyTold;
 use server::TrailerRecord;
 use server::serve;
 
@@ -49,7 +49,7 @@ fn text(told: &[u8]) {
     bytes(told);
 }
 
-fn answered(told: AnswerTold, response: &[u8]) {
+fn answered(told: ReplyTold, response: &[u8]) {
     if told.refusal != 0 {
         say(b" refused ");
         decimal(told.refusal as usize);
@@ -63,7 +63,7 @@ fn answered(told: AnswerTold, response: &[u8]) {
 
 // The record after a request, whose answer is said.
 pub fn asked(name: &[u8], record: TrailerRecord, request: &[u8], functional: bool) -> TrailerRecord
-    ensures { λ r. ⌜ r ≡ outcomeOf «record» (now (request .entry)) functional (replicate 255 0) .after ⌝ }
+    ensures { λ r. ⌜ r ≡ servedOf «record» (now (request .entry)) functional (replicate 255 0) .after ⌝ }
 {
     say(name);
     say(b",");
@@ -71,8 +71,8 @@ pub fn asked(name: &[u8], record: TrailerRecord, request: &[u8], functional: boo
     say(b":");
     let mut response = [0u8; 255];
     let served = serve(record, request, functional, &mut response);
-    let answer = served.answer;
-    answered(answer.told(), &response);
+    let reply = served.reply;
+    answered(reply.told(), &response);
     let mut after = record;
     let statuses = served.statuses;
     after.statuses = statuses;

@@ -1,4 +1,4 @@
--- Demand 2 of the server, for the very definitions that the contracts of `serve` and `set_status` cite: `outcomeOf` is what one request leaves behind, `settingOf` what one setting does.
+-- Demand 2 of the server, for the very definitions that the contracts of `serve` and `set_status` cite: `servedOf` is what one request leaves behind, `settingOf` what one setting does.
 -- The statements stand first, each in a sentence and as a type; the proofs follow. What each service answers is in `Demand2Answers`, where each negative code is due in `Demand2Negatives`.
 use mathlib.Core.Path.{_≡_, refl, sym, ap, _∙_}
 use mathlib.Core.Bool.{Bool, true, false}
@@ -9,38 +9,38 @@ use native.Mathlib.Omega.{arith}
 use lib.ListN.{getD, set, length, take, drop}
 use lib.Seq.{getD-set-other}
 use Rattle.identifiers.specs.Bytes.{written}
+use Rattle.identifiers.specs.declared.answer.Answer.the-variants.{Done}
 use Rattle.identifiers.specs.declared.refusal.Refusal.{Refusal}
 use Rattle.identifiers.proofs.LawsBytes.{take-written, drop-written}
-use Rattle.server.specs.Places.{placeOf, heldAmong}
+use Rattle.server.specs.Places.{placeAmong, heldAmong}
 use Rattle.server.specs.Trailer.{statusWithin, soundRecord, withStatuses}
 use Rattle.server.specs.Faults.{clearedOf}
 use Rattle.server.specs.Requests.{serviceOf, groupOf, requestOf}
 use Rattle.server.specs.Silence.{silentOn}
 use Rattle.server.specs.Forms.{Reads, unknown-service, too-short, unknown-sub-function, wrong-length, clear-group, count-by-mask, list-by-mask, list-all, read-data, tester-present}
-use Rattle.server.specs.Server.{negativeOf, positiveOf, changedBy, wrongLengths, Outcome, outcome, outcomeOf}
+use Rattle.server.specs.Server.{negativeOf, positiveOf, changedBy, wrongLengths, Effect, effect, servedOf}
 use Rattle.server.specs.Status.{Setting, settingOf}
 use Rattle.server.specs.declared.trailer.TrailerRecord.{TrailerRecord}
 use Rattle.server.specs.declared.requests.Request.{Request}
-use Rattle.server.specs.declared.serving.Answer.the-variants.{Refused, Silent, Sent}
-use Rattle.server.specs.declared.status.StatusAnswer.the-variants as setting
+use Rattle.server.specs.declared.serving.Reply.the-variants.{Refused, Silent, Sent}
 use Rattle.server.proofs.LawsPlaces.{held-at}
 use Rattle.server.proofs.LawsTrailer.{sound-has}
 use Rattle.server.proofs.LawsCleared.{clear-way, set-way, within-way, sound-with, cleared-within}
 use Rattle.server.proofs.LawsStatus.{setting-1, setting-18, setting-19, setting-set}
 use Rattle.server.proofs.LawsRequests.{reads}
-use Rattle.server.proofs.LawsServer.{outcome-1, outcome-17, outcome-silent, outcome-negative, outcome-positive, right-lengths, negative-bytes, positive-length, Ends, broken, wrong, silent, negative, positive, ends}
+use Rattle.server.proofs.LawsServer.{served-1, served-17, served-silent, served-negative, served-positive, right-lengths, negative-bytes, positive-length, Ends, broken, wrong, silent, negative, positive, ends}
 
 -- ---- the statements
 -- of one request to a record, physical or functional, with this response buffer
 module _ (t : TrailerRecord) (request : List ℕ) (functional : Bool) (response : List ℕ) where
-  abbrev pub leaves : Outcome
-  leaves = outcomeOf t request functional response
+  abbrev pub leaves : Effect
+  leaves = servedOf t request functional response
 
   -- a positive clear response: `54` is sent, and "those statuses become `50` AND the availability mask"
   pub record ClearSent : Type 0 where
     pub service : serviceOf request ≡ 0x14
     pub after : leaves .after ≡ withStatuses t (clearedOf t (groupOf request))
-    pub answer : leaves .answer ≡ Sent 1
+    pub reply : leaves .reply ≡ Sent 1
     pub sent : leaves .response ≡ written response 0 (0x54 ∷ [])
 
   -- "No fault status changes by a request unless a positive clear response answers it":
@@ -56,7 +56,7 @@ module _ (t : TrailerRecord) (request : List ℕ) (functional : Bool) (response 
   SoundAfter = soundRecord t ≡ true → soundRecord (leaves .after) ≡ true
 
   -- what is sent: 1 to 255 bytes, a positive answer that begins with service + 40, or "`7F`, service, code"; "those past the response stay"
-  pub record Reply (n : ℕ) : Type 0 where
+  pub record SentBytes (n : ℕ) : Type 0 where
     pub bytes : List ℕ
     pub which : ((negativeOf t (requestOf request) request ≡ 0) × ((bytes ≡ positiveOf t (requestOf request) request) × (getD bytes 0 0 ≡ serviceOf request + 0x40)))
         ⊎ ((negativeOf t (requestOf request) request ≢ 0) × (bytes ≡ 0x7F ∷ serviceOf request ∷ negativeOf t (requestOf request) request ∷ []))
@@ -67,11 +67,11 @@ module _ (t : TrailerRecord) (request : List ℕ) (functional : Bool) (response 
     pub rest : drop n (leaves .response) ≡ drop n response
 
   abbrev pub SentReply : Type 0
-  SentReply = (n : ℕ) → leaves .answer ≡ Sent n → Reply n
+  SentReply = (n : ℕ) → leaves .reply ≡ Sent n → SentBytes n
 
   -- Silent exactly where a record that keeps its rules is asked with the right lengths and the code is silenced by bit 7 or by the functional address.
   abbrev pub SilentExactly : Type 0
-  SilentExactly = leaves .answer ≡ Silent
+  SilentExactly = leaves .reply ≡ Silent
       ↔ ((soundRecord t ≡ true) × ((wrongLengths (length request) (length response) ≡ false) × (silentOn (requestOf request) functional (negativeOf t (requestOf request) request) ≡ true)))
 
 -- of one setting
@@ -81,12 +81,12 @@ module _ (t : TrailerRecord) (code status : ℕ) where
 
   -- "The host can set the status of one code": that one, and nothing else,
   pub record OneSet : Type 0 where
-    pub answer : sets .answer ≡ setting.Set
-    pub place : placeOf (t .codes) (t .count) code < t .count
-    pub code-there : getD (t .codes) (placeOf (t .codes) (t .count) code) 0 ≡ code
+    pub answer : sets .answer ≡ Done
+    pub place : placeAmong (t .codes) (t .count) code < t .count
+    pub code-there : getD (t .codes) (placeAmong (t .codes) (t .count) code) 0 ≡ code
     pub within : statusWithin (t .availability) status ≡ true
-    pub after : sets .after ≡ withStatuses t (set (t .statuses) (placeOf (t .codes) (t .count) code) status)
-    pub elsewhere : (i : ℕ) → i ≢ placeOf (t .codes) (t .count) code → getD (sets .after .statuses) i 0 ≡ getD (t .statuses) i 0
+    pub after : sets .after ≡ withStatuses t (set (t .statuses) (placeAmong (t .codes) (t .count) code) status)
+    pub elsewhere : (i : ℕ) → i ≢ placeAmong (t .codes) (t .count) code → getD (sets .after .statuses) i 0 ≡ getD (t .statuses) i 0
 
   -- or it is refused, and the record is as it was;
   abbrev pub OneStatus : Type 0
@@ -98,29 +98,29 @@ module _ (t : TrailerRecord) (code status : ℕ) where
 
 -- ---- the proofs
 module _ (t : TrailerRecord) (request : List ℕ) (functional : Bool) (response : List ℕ) where
-  abbrev left : Outcome
+  abbrev left : Effect
   left = leaves t request functional response
 
   abbrev code : ℕ
   code = negativeOf t (requestOf request) request
 
-  after-is : {o : Outcome} → left ≡ o → left .after ≡ o .after
-  after-is e = ap (λ (p : Outcome). p .after) e
+  after-is : {o : Effect} → left ≡ o → left .after ≡ o .after
+  after-is e = ap (λ (p : Effect). p .after) e
 
-  answer-is : {o : Outcome} → left ≡ o → left .answer ≡ o .answer
-  answer-is e = ap (λ (p : Outcome). p .answer) e
+  reply-is : {o : Effect} → left ≡ o → left .reply ≡ o .reply
+  reply-is e = ap (λ (p : Effect). p .reply) e
 
-  response-is : {o : Outcome} → left ≡ o → left .response ≡ o .response
-  response-is e = ap (λ (p : Outcome). p .response) e
+  response-is : {o : Effect} → left ≡ o → left .response ≡ o .response
+  response-is e = ap (λ (p : Effect). p .response) e
 
   -- a request that is answered positively
-  changed : {asked : Request} → Reads request asked → left ≡ outcome (changedBy t asked) (Sent (length (positiveOf t asked request))) (written response 0 (positiveOf t asked request)) → KeptOrCleared t request functional response
+  changed : {asked : Request} → Reads request asked → left ≡ effect (changedBy t asked) (Sent (length (positiveOf t asked request))) (written response 0 (positiveOf t asked request)) → KeptOrCleared t request functional response
   unfolding changedBy positiveOf serviceOf groupOf
   changed (unknown-service x) e = inl (after-is e)
   changed (too-short x) e = inl (after-is e)
   changed (unknown-sub-function x) e = inl (after-is e)
   changed (wrong-length x) e = inl (after-is e)
-  changed (clear-group s n) e = inr (record { service = s; after = after-is e; answer = answer-is e; sent = response-is e })
+  changed (clear-group s n) e = inr (record { service = s; after = after-is e; reply = reply-is e; sent = response-is e })
   changed (count-by-mask s u n) e = inl (after-is e)
   changed (list-by-mask s u n) e = inl (after-is e)
   changed (list-all s u n) e = inl (after-is e)
@@ -131,11 +131,11 @@ module _ (t : TrailerRecord) (request : List ℕ) (functional : Bool) (response 
   kept-or-cleared = by (ends t request functional response)
     where
       by : Ends t request functional response → KeptOrCleared t request functional response
-      by (broken a) = inl (after-is (outcome-1 t request functional response a))
-      by (wrong a b) = inl (after-is (outcome-17 t request functional response a b))
-      by (silent a b c) = inl (after-is (outcome-silent t request functional response a b refl c))
-      by (negative a b c d) = inl (after-is (outcome-negative t request functional response a b refl c d))
-      by (positive a b c d) = changed (reads request) (outcome-positive t request functional response a b refl c d)
+      by (broken a) = inl (after-is (served-1 t request functional response a))
+      by (wrong a b) = inl (after-is (served-17 t request functional response a b))
+      by (silent a b c) = inl (after-is (served-silent t request functional response a b refl c))
+      by (negative a b c d) = inl (after-is (served-negative t request functional response a b refl c d))
+      by (positive a b c d) = changed (reads request) (served-positive t request functional response a b refl c d)
 
   pub only-statuses : OnlyStatuses t request functional response
   only-statuses =
@@ -180,27 +180,27 @@ module _ (t : TrailerRecord) (request : List ℕ) (functional : Bool) (response 
       same : (m : ℕ) → Sent m ≡ Sent n → n ≡ m
       same m e = cc
 
-      by : Ends t request functional response → Reply t request functional response n
-      by (broken a) = absurd (no-refusal _ (sym (answer-is (outcome-1 t request functional response a)) ∙ h))
-      by (wrong a b) = absurd (no-refusal _ (sym (answer-is (outcome-17 t request functional response a b)) ∙ h))
-      by (silent a b c) = absurd (no-silence (sym (answer-is (outcome-silent t request functional response a b refl c)) ∙ h))
+      by : Ends t request functional response → SentBytes t request functional response n
+      by (broken a) = absurd (no-refusal _ (sym (reply-is (served-1 t request functional response a)) ∙ h))
+      by (wrong a b) = absurd (no-refusal _ (sym (reply-is (served-17 t request functional response a b)) ∙ h))
+      by (silent a b c) = absurd (no-silence (sym (reply-is (served-silent t request functional response a b refl c)) ∙ h))
       by (negative a b c d) =
-          let law = outcome-negative t request functional response a b refl c d in
-          let e : n ≡ 3 = same 3 (sym (answer-is law) ∙ h) in
+          let law = served-negative t request functional response a b refl c d in
+          let e : n ≡ 3 = same 3 (sym (reply-is law) ∙ h) in
           let room = right-lengths _ _ b .1 .1 in
           let bytes : List ℕ = 0x7F ∷ serviceOf request ∷ code ∷ [] in
           let s = stands bytes n e (omega arith) (response-is law ∙ ap (written response 0) (negative-bytes _ _)) in
           record { bytes = bytes; which = inr (d, refl); count = e; some = omega arith; most = omega arith; front = s .0; rest = s .1 }
       by (positive a b c d) =
-          let law = outcome-positive t request functional response a b refl c d in
-          let e : n ≡ length (positiveOf t (requestOf request) request) = same _ (sym (answer-is law) ∙ h) in
+          let law = served-positive t request functional response a b refl c d in
+          let e : n ≡ length (positiveOf t (requestOf request) request) = same _ (sym (reply-is law) ∙ h) in
           let room = right-lengths _ _ b .1 .1 in
           let p = positive-length t (requestOf request) request d in
           let s = stands (positiveOf t (requestOf request) request) n e (omega (arith, p .1, room)) (response-is law) in
           record { bytes = positiveOf t (requestOf request) request; which = inl (d, (refl, first-byte (reads request) d)); count = e; some = omega (arith, p .0); most = omega (arith, p .1); front = s .0; rest = s .1 }
 
   pub silent-exactly : SilentExactly t request functional response
-  silent-exactly = (λ h. by (ends t request functional response) h, λ k. answer-is (outcome-silent t request functional response (k .0) (k .1 .0) refl (k .1 .1)))
+  silent-exactly = (λ h. by (ends t request functional response) h, λ k. reply-is (served-silent t request functional response (k .0) (k .1 .0) refl (k .1 .1)))
     where
       no-refusal : (r : Refusal) → Refused r ≡ Silent → ⊥
       no-refusal r e = let z : _≡_ {A = ℕ} 0 1 = cc in omega arith
@@ -208,16 +208,16 @@ module _ (t : TrailerRecord) (request : List ℕ) (functional : Bool) (response 
       not-sent : (m : ℕ) → Sent m ≡ Silent → ⊥
       not-sent m e = let z : _≡_ {A = ℕ} 0 1 = cc in omega arith
 
-      by : Ends t request functional response → left .answer ≡ Silent → (soundRecord t ≡ true) × ((wrongLengths (length request) (length response) ≡ false) × (silentOn (requestOf request) functional code ≡ true))
-      by (broken a) h = absurd (no-refusal _ (sym (answer-is (outcome-1 t request functional response a)) ∙ h))
-      by (wrong a b) h = absurd (no-refusal _ (sym (answer-is (outcome-17 t request functional response a b)) ∙ h))
+      by : Ends t request functional response → left .reply ≡ Silent → (soundRecord t ≡ true) × ((wrongLengths (length request) (length response) ≡ false) × (silentOn (requestOf request) functional code ≡ true))
+      by (broken a) h = absurd (no-refusal _ (sym (reply-is (served-1 t request functional response a)) ∙ h))
+      by (wrong a b) h = absurd (no-refusal _ (sym (reply-is (served-17 t request functional response a b)) ∙ h))
       by (silent a b c) h = (a, (b, c))
-      by (negative a b c d) h = absurd (not-sent _ (sym (answer-is (outcome-negative t request functional response a b refl c d)) ∙ h))
-      by (positive a b c d) h = absurd (not-sent _ (sym (answer-is (outcome-positive t request functional response a b refl c d)) ∙ h))
+      by (negative a b c d) h = absurd (not-sent _ (sym (reply-is (served-negative t request functional response a b refl c d)) ∙ h))
+      by (positive a b c d) h = absurd (not-sent _ (sym (reply-is (served-positive t request functional response a b refl c d)) ∙ h))
 
 module _ (t : TrailerRecord) (code status : ℕ) where
   abbrev place : ℕ
-  place = placeOf (t .codes) (t .count) code
+  place = placeAmong (t .codes) (t .count) code
 
   pub one-status : OneStatus t code status
   one-status = by (soundRecord t) (heldAmong (t .codes) (t .count) code) (statusWithin (t .availability) status) refl refl refl

@@ -7,16 +7,15 @@ use native.Mathlib.Omega.{arith}
 use borrow.Author.Tests.{lt-ltb, le-ltb, eq-eqb}
 use lib.Dec.{eqb, ltb}
 use lib.ListN.{getD, length, length-append}
-use Rattle.identifiers.specs.Below.{listBelow}
+use Rattle.identifiers.specs.Below.{listBelow, firstBelow}
 use Rattle.identifiers.specs.Bytes.{Puts}
 use Rattle.identifiers.proofs.LawsChoice.{pick-true, pick-false}
-use Rattle.identifiers.proofs.LawsBelow.{list-none, list-suc, length-more, length-mono}
+use Rattle.identifiers.proofs.LawsBelow.{list-none, list-suc, length-more, length-mono, first-hit}
 use Rattle.identifiers.proofs.LawsBytes.{keeps-length}
-use Rattle.server.specs.Places.{firstBelow, placeOf, heldAmong}
+use Rattle.server.specs.Places.{placeAmong, heldAmong}
 use Rattle.server.specs.Faults.{twoBytes}
 use Rattle.server.specs.DataIdentifiers.{askedCount, askedAt, dataOf, identifierAndData, answerTo, answersOf}
 use Rattle.server.specs.declared.trailer.TrailerRecord.{TrailerRecord}
-use Rattle.server.proofs.LawsPlaces.{first-hit}
 
 ones : (g : ℕ → ℕ) (n : ℕ) → length (listBelow (λ j. g j ∷ []) n) ≡ n
 ones g zero = rw list-none
@@ -32,25 +31,25 @@ module _ (t : TrailerRecord) where
   length-identifier k = omega (arith, length-data k)
 
   -- an identifier that stands first at k, and one that stands nowhere
-  pub answer-hit : (identifier k : ℕ) → placeOf (t .identifiers) (t .held) identifier ≡ k → k < t .held → identifierAndData t k ≡ answerTo t identifier
+  pub answer-hit : (identifier k : ℕ) → placeAmong (t .identifiers) (t .held) identifier ≡ k → k < t .held → identifierAndData t k ≡ answerTo t identifier
   unfolding answerTo heldAmong
   answer-hit identifier k e l = sym (pick-true _ _ (ap (λ (x : ℕ). ltb x (t .held)) e ∙ lt-ltb k (t .held) l) ∙ ap (identifierAndData t) e)
 
-  pub length-answer : (identifier k : ℕ) → placeOf (t .identifiers) (t .held) identifier ≡ k → k < t .held → length (answerTo t identifier) ≡ 2 + getD (t .lengths) k 0
+  pub length-answer : (identifier k : ℕ) → placeAmong (t .identifiers) (t .held) identifier ≡ k → k < t .held → length (answerTo t identifier) ≡ 2 + getD (t .lengths) k 0
   length-answer identifier k e l = ap length (sym (answer-hit identifier k e l)) ∙ length-identifier k
 
-  pub answer-miss : (identifier : ℕ) → t .held ≤ placeOf (t .identifiers) (t .held) identifier → answerTo t identifier ≡ []
+  pub answer-miss : (identifier : ℕ) → t .held ≤ placeAmong (t .identifiers) (t .held) identifier → answerTo t identifier ≡ []
   unfolding answerTo heldAmong
   answer-miss identifier h = pick-false _ _ (le-ltb _ _ h)
 
   -- a loop over the held identifiers that has found the one that is asked, and one that has passed them all
   pub found : (request : List ℕ) (j k : ℕ) {identifier : ℕ} → identifier ≡ askedAt request j → firstBelow (λ (m : ℕ). eqb (getD (t .identifiers) m 0) identifier) k ≡ k → getD (t .identifiers) k 0 ≡ identifier → k < t .held
       → identifierAndData t k ≡ answerTo t (askedAt request j)
-  unfolding placeOf
+  unfolding placeAmong
   found request j k {identifier} e f h l = answer-hit identifier k (first-hit _ k (t .held) f (eq-eqb _ _ h) l) l ∙ ap (answerTo t) e
 
   pub found-none : (request : List ℕ) (j : ℕ) {identifier : ℕ} → identifier ≡ askedAt request j → firstBelow (λ (m : ℕ). eqb (getD (t .identifiers) m 0) identifier) (t .held) ≡ t .held → answerTo t (askedAt request j) ≡ []
-  unfolding placeOf
+  unfolding placeAmong
   found-none request j {identifier} e f = ap (answerTo t) (sym e) ∙ answer-miss identifier (omega arith)
 
   -- there is room for one answer where there is for all of them

@@ -11,7 +11,7 @@ use lib.Arith.{bin-ind}
 use lib.Bits.{bitAnd, and-step, and-shr}
 use Rattle.identifiers.specs.Choice.{either}
 use Rattle.identifiers.proofs.LawsChoice.{both-true, so, left-holds, right-holds}
-use Rattle.server.specs.Mask.{maskKept}
+use Rattle.server.specs.Mask.{soundMask}
 
 one-or-other : (a b : ℕ) (n : ℕ) → either (eqb n a) (eqb n b) ≡ true → (n ≡ a) ⊎ (n ≡ b)
 unfolding either
@@ -26,8 +26,8 @@ other-or-one a b n (inl e) = left-holds _ (eq-eqb _ _ e)
 other-or-one a b n (inr e) = right-holds _ (eq-eqb _ _ e)
 
 -- "bits 0, 3 and 6 set; bit 2 only with bit 1; bits 4 and 5 together"
-pub mask-rule : (mask : ℕ) → (maskKept mask ≡ true) ↔ ((bitAnd mask 0x49 ≡ 0x49) × ((bitAnd mask 0x06 ≢ 0x04) × ((bitAnd mask 0x30 ≡ 0x00) ⊎ (bitAnd mask 0x30 ≡ 0x30))))
-unfolding maskKept
+pub mask-rule : (mask : ℕ) → (soundMask mask ≡ true) ↔ ((bitAnd mask 0x49 ≡ 0x49) × ((bitAnd mask 0x06 ≢ 0x04) × ((bitAnd mask 0x30 ≡ 0x00) ⊎ (bitAnd mask 0x30 ≡ 0x30))))
+unfolding soundMask
 mask-rule mask = (
   λ e.
       let a = both-true _ _ e in

@@ -10,7 +10,8 @@ use lib.Dec.{eqb, ltb, leb}
 use lib.ListN.{getD, length}
 use Rattle.identifiers.specs.Choice.{pick, both}
 use Rattle.server.specs.Requests.{serviceOf, subFunctionOf, silencing, maskOf, groupOf, sized, formOf14, formOf19, formOf22, formOf3E, requestBy, requestOf}
-use Rattle.server.specs.Forms.{no-service, short-19, short-3E, unknown-19, unknown-3E, WrongLength, not-4, not-3-of-01, not-3-of-02, not-2-of-0A, under-3, even, not-2-of-00, Reads, unknown-service, too-short, unknown-sub-function, wrong-length, clear-group, count-by-mask, list-by-mask, list-all, read-data, tester-present}
+use Rattle.server.specs.Forms.{no-service, short-19, short-3E, unknown-19, unknown-3E, WrongLength, not-4, not-3-of-01, not-3-of-02, not-2-of-0A, under-3, even}
+use Rattle.server.specs.Forms.{not-2-of-00, Reads, unknown-service, too-short, unknown-sub-function, wrong-length, clear-group, count-by-mask, list-by-mask, list-all, read-data, tester-present}
 use Rattle.server.specs.declared.requests.Request.{Request}
 
 module _ (q : List ℕ) where

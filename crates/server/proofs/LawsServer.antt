@@ -1,6 +1,6 @@
--- Laws of the server: how long a positive answer is, and one law for each rung of an outcome.
+-- Laws of the server: how long a positive answer is, and one law for each rung of an effect.
 use mathlib.Core.Path.{_≡_, refl, ap, _∙_}
-use mathlib.Core.Bool.{Bool, true, false, not}
+use mathlib.Core.Bool.{Bool, true, false}
 use mathlib.Core.List.{List, [], _∷_}
 use Prim.Native.Nat.{ℕ, _+_, _≤_, _<_}
 use native.Mathlib.Omega.{arith}
@@ -16,11 +16,11 @@ use Rattle.server.specs.Faults.{twoBytes, reportOf}
 use Rattle.server.specs.DataIdentifiers.{answersOf}
 use Rattle.server.specs.Requests.{serviceOf, requestOf}
 use Rattle.server.specs.Silence.{silentOn}
-use Rattle.server.specs.Server.{contentOf19, contentOf22, negativeOf, negativeBytes, positiveOf, changedBy, wrongLengths, outcome, answered, outcomeOf}
+use Rattle.server.specs.Server.{contentOf19, contentOf22, negativeOf, negativeBytes, positiveOf, changedBy, wrongLengths, effect, answered, servedOf}
 use Rattle.server.specs.declared.trailer.TrailerRecord.{TrailerRecord}
 use Rattle.server.specs.declared.requests.Request.{Request}
-use Rattle.server.specs.declared.serving.Answer.{Answer}
-use Rattle.server.specs.declared.serving.Answer.the-variants.{Refused, Silent, Sent}
+use Rattle.server.specs.declared.serving.Reply.{Reply}
+use Rattle.server.specs.declared.serving.Reply.the-variants.{Refused, Silent, Sent}
 use Rattle.server.proofs.LawsFaults.{length-report, count-listed-le}
 
 -- ---- lengths
@@ -72,52 +72,52 @@ unfolding wrongLengths either
 lengths-right n m a b c = rw (ne-eqb n 0 (λ z. omega arith), le-ltb 255 n b, eq-eqb m 255 c)
 
 -- ---- one law for each rung of a request that is answered
--- an outcome is its record, its answer and its response
-pub same-outcome : {a b : TrailerRecord} {x y : Answer} {l m : List ℕ} → a ≡ b → x ≡ y → l ≡ m → outcome a x l ≡ outcome b y m
-same-outcome p q r = rw (p, q, r)
+-- an effect is its record, its reply and its response
+pub same-effect : {a b : TrailerRecord} {x y : Reply} {l m : List ℕ} → a ≡ b → x ≡ y → l ≡ m → effect a x l ≡ effect b y m
+same-effect p q r = rw (p, q, r)
 
 module _ (t : TrailerRecord) (asked : Request) (request : List ℕ) (functional : Bool) (response : List ℕ) where
-  pub answered-silent : silentOn asked functional (negativeOf t asked request) ≡ true → answered t asked request functional response ≡ outcome t Silent response
+  pub answered-silent : silentOn asked functional (negativeOf t asked request) ≡ true → answered t asked request functional response ≡ effect t Silent response
   unfolding answered
   answered-silent c = pick-true _ _ c
 
   pub answered-negative : silentOn asked functional (negativeOf t asked request) ≡ false → (negativeOf t asked request ≡ 0 → ⊥)
-      → answered t asked request functional response ≡ outcome t (Sent 3) (written response 0 (negativeBytes (serviceOf request) (negativeOf t asked request)))
+      → answered t asked request functional response ≡ effect t (Sent 3) (written response 0 (negativeBytes (serviceOf request) (negativeOf t asked request)))
   unfolding answered
-  answered-negative c d = pick-false _ _ c ∙ pick-true _ _ (ap not (ne-eqb _ _ d))
+  answered-negative c d = pick-false _ _ c ∙ pick-false _ _ (ne-eqb _ _ d)
 
   pub answered-positive : silentOn asked functional (negativeOf t asked request) ≡ false → negativeOf t asked request ≡ 0
-      → answered t asked request functional response ≡ outcome (changedBy t asked) (Sent (length (positiveOf t asked request))) (written response 0 (positiveOf t asked request))
+      → answered t asked request functional response ≡ effect (changedBy t asked) (Sent (length (positiveOf t asked request))) (written response 0 (positiveOf t asked request))
   unfolding answered
-  answered-positive c d = pick-false _ _ c ∙ pick-false _ _ (ap not (eq-eqb _ _ d))
+  answered-positive c d = pick-false _ _ c ∙ pick-true _ _ (eq-eqb _ _ d)
 
--- ---- one law for each rung of a request's outcome
+-- ---- one law for each rung of a request's effect
 module _ (t : TrailerRecord) (request : List ℕ) (functional : Bool) (response : List ℕ) where
-  pub outcome-1 : soundRecord t ≡ false → outcomeOf t request functional response ≡ outcome t (Refused (refusal 1)) response
-  unfolding outcomeOf
-  outcome-1 a = pick-true _ _ (ap not a)
+  pub served-1 : soundRecord t ≡ false → servedOf t request functional response ≡ effect t (Refused (refusal 1)) response
+  unfolding servedOf
+  served-1 a = pick-false _ _ a
 
-  pub outcome-17 : soundRecord t ≡ true → wrongLengths (length request) (length response) ≡ true → outcomeOf t request functional response ≡ outcome t (Refused (refusal 17)) response
-  unfolding outcomeOf
-  outcome-17 a b = pick-false _ _ (ap not a) ∙ pick-true _ _ b
+  pub served-17 : soundRecord t ≡ true → wrongLengths (length request) (length response) ≡ true → servedOf t request functional response ≡ effect t (Refused (refusal 17)) response
+  unfolding servedOf
+  served-17 a b = pick-true _ _ a ∙ pick-true _ _ b
 
   module _ (a : soundRecord t ≡ true) (b : wrongLengths (length request) (length response) ≡ false) {asked : Request} (read : requestOf request ≡ asked) where
-    pub outcome-read : outcomeOf t request functional response ≡ answered t asked request functional response
-    unfolding outcomeOf
-    outcome-read = pick-false _ _ (ap not a) ∙ pick-false _ _ b ∙ ap (λ (r : Request). answered t r request functional response) read
+    pub served-read : servedOf t request functional response ≡ answered t asked request functional response
+    unfolding servedOf
+    served-read = pick-true _ _ a ∙ pick-false _ _ b ∙ ap (λ (r : Request). answered t r request functional response) read
 
-    pub outcome-silent : silentOn asked functional (negativeOf t asked request) ≡ true → outcomeOf t request functional response ≡ outcome t Silent response
-    outcome-silent c = outcome-read ∙ answered-silent t asked request functional response c
+    pub served-silent : silentOn asked functional (negativeOf t asked request) ≡ true → servedOf t request functional response ≡ effect t Silent response
+    served-silent c = served-read ∙ answered-silent t asked request functional response c
 
-    pub outcome-negative : silentOn asked functional (negativeOf t asked request) ≡ false → (negativeOf t asked request ≡ 0 → ⊥)
-        → outcomeOf t request functional response ≡ outcome t (Sent 3) (written response 0 (negativeBytes (serviceOf request) (negativeOf t asked request)))
-    outcome-negative c d = outcome-read ∙ answered-negative t asked request functional response c d
+    pub served-negative : silentOn asked functional (negativeOf t asked request) ≡ false → (negativeOf t asked request ≡ 0 → ⊥)
+        → servedOf t request functional response ≡ effect t (Sent 3) (written response 0 (negativeBytes (serviceOf request) (negativeOf t asked request)))
+    served-negative c d = served-read ∙ answered-negative t asked request functional response c d
 
-    pub outcome-positive : silentOn asked functional (negativeOf t asked request) ≡ false → negativeOf t asked request ≡ 0
-        → outcomeOf t request functional response ≡ outcome (changedBy t asked) (Sent (length (positiveOf t asked request))) (written response 0 (positiveOf t asked request))
-    outcome-positive c d = outcome-read ∙ answered-positive t asked request functional response c d
+    pub served-positive : silentOn asked functional (negativeOf t asked request) ≡ false → negativeOf t asked request ≡ 0
+        → servedOf t request functional response ≡ effect (changedBy t asked) (Sent (length (positiveOf t asked request))) (written response 0 (positiveOf t asked request))
+    served-positive c d = served-read ∙ answered-positive t asked request functional response c d
 
--- ---- the five outcomes of a request, and that there are no others
+-- ---- the five ways in which a request ends, and that there are no others
 pub data Ends (t : TrailerRecord) (request : List ℕ) (functional : Bool) (response : List ℕ) : Type 0 where
   broken : soundRecord t ≡ false → Ends t request functional response
   wrong : soundRecord t ≡ true → wrongLengths (length request) (length response) ≡ true → Ends t request functional response

@@ -14,14 +14,14 @@ use Rattle.identifiers.specs.Choice.{both}
 use Rattle.identifiers.specs.Below.{allBelow}
 use Rattle.identifiers.proofs.LawsChoice.{stop, so, both-true, both-false, both-assoc, and-is}
 use Rattle.identifiers.proofs.LawsBelow.{all-suc, all-at, all-each, all-fails}
-use Rattle.server.specs.Mask.{maskKept}
+use Rattle.server.specs.Mask.{soundMask}
 use Rattle.server.specs.Trailer.{ascending, codesBelow, statusesWithin, lengthWithin, lengthsWithin, soundRecord}
 use Rattle.server.specs.declared.trailer.TrailerRecord.{TrailerRecord}
 
 pub record Sound (t : TrailerRecord) : Type 0 where
   pub count : t .count ≤ 63
   pub held : t .held ≤ 16
-  pub mask : maskKept (t .availability) ≡ true
+  pub mask : soundMask (t .availability) ≡ true
   pub codes : codesBelow t ≡ true
   pub ascend : ascending (t .codes) (t .count) ≡ true
   pub statuses : statusesWithin t ≡ true

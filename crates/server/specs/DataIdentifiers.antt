@@ -4,7 +4,7 @@ use Prim.Native.Nat.{ℕ, _+_, _*_, _-_, _/_}
 use lib.ListN.{getD, length}
 use Rattle.identifiers.specs.Choice.{pick}
 use Rattle.identifiers.specs.Below.{listBelow}
-use Rattle.server.specs.Places.{placeOf, heldAmong}
+use Rattle.server.specs.Places.{placeAmong, heldAmong}
 use Rattle.server.specs.Faults.{twoBytes}
 use Rattle.server.specs.declared.trailer.TrailerRecord.{TrailerRecord}
 
@@ -25,7 +25,7 @@ identifierAndData t k = twoBytes (getD (t .identifiers) k 0) ++ dataOf t k
 
 -- what is answered for one identifier: nothing where it is not held
 unfoldable pub answerTo : TrailerRecord → ℕ → List ℕ
-answerTo t identifier = pick (heldAmong (t .identifiers) (t .held) identifier) (identifierAndData t (placeOf (t .identifiers) (t .held) identifier)) []
+answerTo t identifier = pick (heldAmong (t .identifiers) (t .held) identifier) (identifierAndData t (placeAmong (t .identifiers) (t .held) identifier)) []
 
 -- "identifier and data for each held one as asked, repeats too"
 unfoldable pub answersOf : TrailerRecord → List ℕ → List ℕ

@@ -6,9 +6,9 @@ use Prim.Native.Nat.{ℕ, _+_, _*_, _%_, _≤_, _<_}
 use lib.ListN.{getD, length}
 use Rattle.identifiers.specs.Bytes.{written}
 use Rattle.server.specs.DataIdentifiers.{answersOf}
-use Rattle.server.specs.Server.{Outcome, outcome}
+use Rattle.server.specs.Server.{Effect, effect}
 use Rattle.server.specs.declared.trailer.TrailerRecord.{TrailerRecord}
-use Rattle.server.specs.declared.serving.Answer.the-variants.{Silent, Sent}
+use Rattle.server.specs.declared.serving.Reply.the-variants.{Silent, Sent}
 
 module _ (t : TrailerRecord) (q : List ℕ) where
   -- 31: "`FFFFFF` or a held code; .. Other groups 31", the group high first; "No asked identifier is held: 31", each of two bytes, high first
@@ -23,9 +23,9 @@ module _ (t : TrailerRecord) (q : List ℕ) where
     over-255 : getD q 0 0 ≡ 0x22 → 3 ≤ length q → length q % 2 ≡ 1 → 255 < 1 + length (answersOf t q) → TooLong
 
 -- "Negative: `7F`, service, code": the record as it was, three bytes sent, and every byte of the buffer
-abbrev pub negativeSent : TrailerRecord → List ℕ → List ℕ → ℕ → Outcome
-negativeSent t q response code = outcome t (Sent 3) (written response 0 (0x7F ∷ getD q 0 0 ∷ code ∷ []))
+abbrev pub negativeSent : TrailerRecord → List ℕ → List ℕ → ℕ → Effect
+negativeSent t q response code = effect t (Sent 3) (written response 0 (0x7F ∷ getD q 0 0 ∷ code ∷ []))
 
 -- "all stay when silent"
-abbrev pub nothingSent : TrailerRecord → List ℕ → Outcome
-nothingSent t response = outcome t Silent response
+abbrev pub nothingSent : TrailerRecord → List ℕ → Effect
+nothingSent t response = effect t Silent response

@@ -4,7 +4,7 @@ use mathlib.Core.List.{List}
 use Prim.Native.Nat.{ℕ, _+_, _*_, _%_}
 use lib.Dec.{eqb, ltb, leb}
 use lib.ListN.{getD, length}
-use Rattle.identifiers.specs.Choice.{pick, both}
+use Rattle.identifiers.specs.Choice.{pick, unless, both}
 use Rattle.server.specs.declared.requests.Request.{Request}
 
 unfoldable pub serviceOf : List ℕ → ℕ
@@ -28,7 +28,7 @@ groupOf request = getD request 1 0 * 65536 + getD request 2 0 * 256 + getD reque
 
 -- "wrong length 13"
 unfoldable pub sized : Bool → Request → Request
-sized right request = pick right request Request.WrongLength
+sized right request = unless right Request.WrongLength request
 
 -- "14 and a 3-byte group, length 4"
 unfoldable pub formOf14 : List ℕ → Request

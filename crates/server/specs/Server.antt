@@ -5,7 +5,7 @@ use mathlib.Core.List.{List, [], _∷_}
 use Prim.Native.Nat.{ℕ, _+_}
 use lib.Dec.{eqb, ltb}
 use lib.ListN.{length}
-use Rattle.identifiers.specs.Choice.{pick, either}
+use Rattle.identifiers.specs.Choice.{pick, unless, either}
 use Rattle.identifiers.specs.Bytes.{written}
 use Rattle.identifiers.specs.Refusals.{refusal}
 use Rattle.server.specs.Trailer.{soundRecord, withStatuses}
@@ -15,12 +15,12 @@ use Rattle.server.specs.Requests.{serviceOf, requestOf}
 use Rattle.server.specs.Silence.{silentOn}
 use Rattle.server.specs.declared.trailer.TrailerRecord.{TrailerRecord}
 use Rattle.server.specs.declared.requests.Request.{Request}
-use Rattle.server.specs.declared.serving.Answer.{Answer}
-use Rattle.server.specs.declared.serving.Answer.the-variants.{Refused, Silent, Sent}
+use Rattle.server.specs.declared.serving.Reply.{Reply}
+use Rattle.server.specs.declared.serving.Reply.the-variants.{Refused, Silent, Sent}
 
 -- the content of a request: "Other groups 31"; "A report over 255 bytes is 14"; "No asked identifier is held: 31. Over 255 bytes: 14."; 0 for none of them
 unfoldable pub contentOf14 : TrailerRecord → ℕ → ℕ
-contentOf14 t group = pick (groupHeld t group) 0 0x31
+contentOf14 t group = unless (groupHeld t group) 0x31 0
 
 unfoldable pub contentOf19 : TrailerRecord → Bool → ℕ → ℕ
 contentOf19 t all mask = pick (ltb 255 (3 + length (reportOf t all mask))) 0x14 0
@@ -75,24 +75,24 @@ changedBy t (Request.TesterPresent silent) = t
 unfoldable pub wrongLengths : ℕ → ℕ → Bool
 wrongLengths request response = either (either (eqb request 0) (ltb 255 request)) (not (eqb response 255))
 
--- what one request leaves behind: the record, the answer and the response buffer
-pub record Outcome : Type 0 where
+-- what one request leaves behind: the record, the reply and the response buffer
+pub record Effect : Type 0 where
   pub after : TrailerRecord
-  pub answer : Answer
+  pub reply : Reply
   pub response : List ℕ
 
-abbrev pub outcome : TrailerRecord → Answer → List ℕ → Outcome
-outcome after answer response = record { after = after; answer = answer; response = response }
+abbrev pub effect : TrailerRecord → Reply → List ℕ → Effect
+effect after reply response = record { after = after; reply = reply; response = response }
 
 -- "those past the response stay, all stay when silent"
-unfoldable pub answered : TrailerRecord → Request → List ℕ → Bool → List ℕ → Outcome
+unfoldable pub answered : TrailerRecord → Request → List ℕ → Bool → List ℕ → Effect
 answered t asked request functional response =
-    pick (silentOn asked functional (negativeOf t asked request)) (outcome t Silent response)
-    (pick (not (eqb (negativeOf t asked request) 0)) (outcome t (Sent 3) (written response 0 (negativeBytes (serviceOf request) (negativeOf t asked request))))
-    (outcome (changedBy t asked) (Sent (length (positiveOf t asked request))) (written response 0 (positiveOf t asked request))))
+    pick (silentOn asked functional (negativeOf t asked request)) (effect t Silent response)
+    (unless (eqb (negativeOf t asked request) 0) (effect t (Sent 3) (written response 0 (negativeBytes (serviceOf request) (negativeOf t asked request))))
+    (effect (changedBy t asked) (Sent (length (positiveOf t asked request))) (written response 0 (positiveOf t asked request))))
 
 -- 1 "lent state breaks its rules", 17, and else as the request is read
-unfoldable pub outcomeOf : TrailerRecord → List ℕ → Bool → List ℕ → Outcome
-outcomeOf t request functional response =
-    pick (not (soundRecord t)) (outcome t (Refused (refusal 1)) response)
-    (pick (wrongLengths (length request) (length response)) (outcome t (Refused (refusal 17)) response) (answered t (requestOf request) request functional response))
+unfoldable pub servedOf : TrailerRecord → List ℕ → Bool → List ℕ → Effect
+servedOf t request functional response =
+    unless (soundRecord t) (effect t (Refused (refusal 1)) response)
+    (pick (wrongLengths (length request) (length response)) (effect t (Refused (refusal 17)) response) (answered t (requestOf request) request functional response))

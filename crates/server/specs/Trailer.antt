@@ -5,13 +5,13 @@ use Prim.Native.Nat.{ℕ, _+_, _-_}
 use lib.Dec.{eqb, ltb, leb}
 use lib.Bits.{bitAnd}
 use lib.ListN.{getD}
-use Rattle.identifiers.specs.Choice.{pick, both}
+use Rattle.identifiers.specs.Choice.{unless, both}
 use Rattle.identifiers.specs.Below.{allBelow}
 use Rattle.identifiers.specs.Refusals.{refusal}
-use Rattle.server.specs.Mask.{maskKept}
+use Rattle.identifiers.specs.declared.answer.Answer.{Answer}
+use Rattle.identifiers.specs.declared.answer.Answer.the-variants.{Done, Refused}
+use Rattle.server.specs.Mask.{soundMask}
 use Rattle.server.specs.declared.trailer.TrailerRecord.{TrailerRecord}
-use Rattle.server.specs.declared.trailer.RecordChecked.{RecordChecked}
-use Rattle.server.specs.declared.trailer.RecordChecked.the-variants as checked
 
 -- "strictly ascending", of the first n
 unfoldable pub ascending : List ℕ → ℕ → Bool
@@ -39,11 +39,11 @@ lengthsWithin t = allBelow (λ k. lengthWithin (getD (t .lengths) k 0)) (t .held
 unfoldable pub soundRecord : TrailerRecord → Bool
 soundRecord t =
     both (both (leb (t .count) 63) (leb (t .held) 16))
-    (both (both (both (both (both (maskKept (t .availability)) (codesBelow t)) (ascending (t .codes) (t .count))) (statusesWithin t)) (ascending (t .identifiers) (t .held))) (lengthsWithin t))
+    (both (both (both (both (both (soundMask (t .availability)) (codesBelow t)) (ascending (t .codes) (t .count))) (statusesWithin t)) (ascending (t .identifiers) (t .held))) (lengthsWithin t))
 
 -- 1 "lent state breaks its rules"
-unfoldable pub checkedAs : TrailerRecord → RecordChecked
-checkedAs t = pick (soundRecord t) checked.Sound (checked.Refused (refusal 1))
+unfoldable pub checkedAs : TrailerRecord → Answer
+checkedAs t = unless (soundRecord t) (Refused (refusal 1)) Done
 
 -- a record with other statuses
 abbrev pub withStatuses : TrailerRecord → List ℕ → TrailerRecord

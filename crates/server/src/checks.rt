@@ -1,25 +1,26 @@
 // The negative code of a request, by what it asks.
 use crate::data_identifiers::answers_length;
+use crate::faults::ALL_GROUPS;
 use crate::faults::count_listed;
-use crate::faults::place;
+use crate::faults::place_among;
 use crate::requests::Request;
 ghost use mathlib.Core.Path.{_≡_};
 ghost use Prim.Native.Nat.{ℕ, _+_, _*_, _≤_};
 ghost use lib.Dec.{eqb, ltb};
 ghost use lib.ListN.{length};
-ghost use Rattle.identifiers.specs.Choice.{pick, either};
+ghost use Rattle.identifiers.specs.Choice.{pick, unless, either};
 ghost use Rattle.server.specs.Places.{heldAmong};
 ghost use Rattle.server.specs.Trailer.{recordOf, dataAlone};
 ghost use Rattle.server.specs.Server.{contentOf22, negativeOf};
 
 fn content_of_14(codes: &[u32; 63], count: usize, group: u32) -> u8
     requires { ⌜ count ≤ 63 ⌝ }
-    ensures { λ r. ⌜ r ≡ pick (either (eqb group 0xFFFFFF) (heldAmong (now (codes .entry)) count group)) 0 0x31 ⌝ }
+    ensures { λ r. ⌜ r ≡ unless (either (eqb group 0xFFFFFF) (heldAmong (now (codes .entry)) count group)) 0x31 0 ⌝ }
 {
-    if group == 0xFFFFFF {
+    if group == ALL_GROUPS {
         return 0;
     }
-    if place(codes, count, group) < count {
+    if place_among(codes, count, group) < count {
         return 0;
     }
     0x31

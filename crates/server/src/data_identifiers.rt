@@ -8,7 +8,7 @@ ghost use lib.ListN.{length, getD};
 ghost use Rattle.identifiers.specs.Below.{listBelow};
 ghost use Rattle.identifiers.specs.Bytes.{Puts};
 ghost use Rattle.server.specs.Trailer.{lengthsWithin, dataAlone};
-ghost use Rattle.server.specs.Places.{placeOf};
+ghost use Rattle.server.specs.Places.{placeAmong};
 ghost use Rattle.server.specs.Faults.{twoBytes};
 ghost use Rattle.server.specs.DataIdentifiers.{askedAt, answersOf};
 
@@ -30,9 +30,9 @@ fn asked(request: &[u8], j: usize) -> u16
 }
 
 // The place of an identifier, or held where it is not held.
-fn place(identifiers: &[u16; 16], held: usize, identifier: u16) -> usize
+fn place_among(identifiers: &[u16; 16], held: usize, identifier: u16) -> usize
     requires { ⌜ held ≤ 16 ⌝ }
-    ensures { λ r. ⌜ r ≡ placeOf (now (identifiers .entry)) held identifier ⌝ }
+    ensures { λ r. ⌜ r ≡ placeAmong (now (identifiers .entry)) held identifier ⌝ }
 {
     let mut k = 0;
     while k < held {
@@ -59,7 +59,7 @@ pub fn answers_length<'a>(
     let mut total = 0;
     let mut j = 0;
     while j < count {
-        let k = place(identifiers, held, asked(request, j));
+        let k = place_among(identifiers, held, asked(request, j));
         if k < held {
             total += 2 + byte(lengths[k]);
         }

@@ -5,13 +5,16 @@ ghost use lib.Bits.{bitAnd};
 ghost use lib.ListN.{length, getD};
 ghost use Rattle.identifiers.specs.Below.{countBelow, listBelow};
 ghost use Rattle.identifiers.specs.Bytes.{Puts};
-ghost use Rattle.server.specs.Places.{placeOf};
+ghost use Rattle.server.specs.Places.{placeAmong};
 ghost use Rattle.server.specs.Faults.{listed, codeAndStatus, twoBytes, reported, inGroup, storedBelow};
 
+// The group that takes in every code.
+pub const ALL_GROUPS: u32 = 0xFFFFFF;
+
 // The place of a code, or count where it is not held.
-pub fn place(codes: &[u32; 63], count: usize, code: u32) -> usize
+pub fn place_among(codes: &[u32; 63], count: usize, code: u32) -> usize
     requires { ⌜ count ≤ 63 ⌝ }
-    ensures { λ r. ⌜ r ≡ placeOf (now (codes .entry)) count code ⌝ }
+    ensures { λ r. ⌜ r ≡ placeAmong (now (codes .entry)) count code ⌝ }
 {
     let mut i = 0;
     while i < count {
@@ -97,7 +100,7 @@ pub fn put_report<'a>(
 fn in_group(group: u32, code: u32) -> bool
     ensures { λ r. ⌜ r ≡ inGroup group code ⌝ }
 {
-    (group == 0xFFFFFF) | (code == group)
+    (group == ALL_GROUPS) | (code == group)
 }
 
 // The statuses, with those of the group cleared.

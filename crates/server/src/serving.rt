@@ -7,7 +7,7 @@ use crate::requests::Request;
 use crate::requests::read_request;
 use crate::silence::silent_on;
 use crate::trailer::TrailerRecord;
-use crate::trailer::sound;
+use crate::trailer::sound_record;
 use identifiers::Refusal;
 ghost use mathlib.Core.Path.{_≡_};
 ghost use mathlib.Core.Bool.{true, false};
@@ -16,10 +16,10 @@ ghost use Prim.Native.Nat.{ℕ, _≤_};
 ghost use lib.ListN.{length};
 ghost use Rattle.server.specs.Trailer.{soundRecord, withStatuses, recordOf};
 ghost use Rattle.server.specs.Requests.{requestOf};
-ghost use Rattle.server.specs.Server.{changedBy, wrongLengths, outcome, answered, outcomeOf};
-ghost use Rattle.server.specs.Told.{answerTold};
+ghost use Rattle.server.specs.Server.{changedBy, wrongLengths, effect, answered, servedOf};
+ghost use Rattle.server.specs.Told.{replyTold};
 
-pub enum Answer {
+pub enum Reply {
     Refused(Refusal),
     Silent,
     Sent(usize),
@@ -28,33 +28,33 @@ pub enum Answer {
 // What a request leaves behind: of the record only the statuses can change.
 pub struct Served {
     pub statuses: [u8; 63],
-    pub answer: Answer,
+    pub reply: Reply,
 }
 
-// The server's answer in numbers: the refusal, 0 for none; is it silent; how many bytes are sent.
+// The reply in numbers: the refusal, 0 for none; is it silent; how many bytes are sent.
 #[repr(C)]
-pub struct AnswerTold {
+pub struct ReplyTold {
     pub refusal: u8,
     pub silent: bool,
     pub length: usize,
 }
 
-impl Answer {
-    pub fn told(self) -> AnswerTold
-        ensures { λ r. ⌜ r ≡ answerTold self ⌝ }
+impl Reply {
+    pub fn told(self) -> ReplyTold
+        ensures { λ r. ⌜ r ≡ replyTold self ⌝ }
     {
         match self {
-            Answer::Refused(why) => AnswerTold {
+            Reply::Refused(why) => ReplyTold {
                 refusal: why.number(),
                 silent: false,
                 length: 0,
             },
-            Answer::Silent => AnswerTold {
+            Reply::Silent => ReplyTold {
                 refusal: 0,
                 silent: true,
                 length: 0,
             },
-            Answer::Sent(n) => AnswerTold {
+            Reply::Sent(n) => ReplyTold {
                 refusal: 0,
                 silent: false,
                 length: n,
@@ -88,11 +88,11 @@ fn statuses_after<'a>(
 }
 
 // The statuses as they were, with an answer.
-fn unchanged(statuses: &[u8; 63], answer: Answer) -> Served
-    ensures { λ r. ⌜ (r .statuses ≡ now (statuses .entry)) × (r .answer ≡ answer) ⌝ }
+fn unchanged(statuses: &[u8; 63], reply: Reply) -> Served
+    ensures { λ r. ⌜ (r .statuses ≡ now (statuses .entry)) × (r .reply ≡ reply) ⌝ }
 {
     let statuses = *statuses;
-    Served { statuses, answer }
+    Served { statuses, reply }
 }
 
 // Reads a request and answers it, to a record that keeps its rules.
@@ -111,7 +111,7 @@ fn answered<'a>(
     response: &mut [u8],
 ) -> Served
     requires { ⌜ (soundRecord (recordOf (now codes) (now statuses) count availability (now identifiers) (now lengths) (now bytes) held) ≡ true) × (wrongLengths (length (now request)) (length (now response)) ≡ false) ⌝ }
-    ensures { λ r. ⌜ outcome (recordOf (now (codes .entry)) (r .statuses) count availability (now (identifiers .entry)) (now (lengths .entry)) (now (bytes .entry)) held) (r .answer) (now (response .exit))
+    ensures { λ r. ⌜ effect (recordOf (now (codes .entry)) (r .statuses) count availability (now (identifiers .entry)) (now (lengths .entry)) (now (bytes .entry)) held) (r .reply) (now (response .exit))
         ≡ answered (recordOf (now (codes .entry)) (now (statuses .entry)) count availability (now (identifiers .entry)) (now (lengths .entry)) (now (bytes .entry)) held) (requestOf (now (request .entry))) (now (request .entry)) functional (now (response .entry)) ⌝ }
 {
     let asked = read_request(request);
@@ -127,11 +127,11 @@ fn answered<'a>(
         request,
     );
     if silent_on(asked, functional, code) {
-        return unchanged(statuses, Answer::Silent);
+        return unchanged(statuses, Reply::Silent);
     }
     if code != 0 {
         let n = put_negative(response, request[0], code);
-        return unchanged(statuses, Answer::Sent(n));
+        return unchanged(statuses, Reply::Sent(n));
     }
     let n = put_positive(
         codes,
@@ -147,12 +147,12 @@ fn answered<'a>(
         response,
     );
     let statuses = statuses_after(codes, statuses, count, availability, asked);
-    let answer = Answer::Sent(n);
-    Served { statuses, answer }
+    let reply = Reply::Sent(n);
+    Served { statuses, reply }
 }
 
-// Refusal 1 where the record breaks its rules, 17 for the lengths; else the request is answered.
-fn respond<'a>(
+// Answers one request to a record in parts: refusal 1 where it breaks its rules, 17 for the lengths; else as the request is read.
+fn serve_parts<'a>(
     codes: &'a [u32; 63],
     statuses: &'a [u8; 63],
     count: u8,
@@ -165,10 +165,10 @@ fn respond<'a>(
     functional: bool,
     response: &mut [u8],
 ) -> Served
-    ensures { λ r. ⌜ outcome (recordOf (now (codes .entry)) (r .statuses) count availability (now (identifiers .entry)) (now (lengths .entry)) (now (bytes .entry)) held) (r .answer) (now (response .exit))
-        ≡ outcomeOf (recordOf (now (codes .entry)) (now (statuses .entry)) count availability (now (identifiers .entry)) (now (lengths .entry)) (now (bytes .entry)) held) (now (request .entry)) functional (now (response .entry)) ⌝ }
+    ensures { λ r. ⌜ effect (recordOf (now (codes .entry)) (r .statuses) count availability (now (identifiers .entry)) (now (lengths .entry)) (now (bytes .entry)) held) (r .reply) (now (response .exit))
+        ≡ servedOf (recordOf (now (codes .entry)) (now (statuses .entry)) count availability (now (identifiers .entry)) (now (lengths .entry)) (now (bytes .entry)) held) (now (request .entry)) functional (now (response .entry)) ⌝ }
 {
-    if !sound(
+    if !sound_record(
         codes,
         statuses,
         count,
@@ -177,10 +177,10 @@ fn respond<'a>(
         lengths,
         held,
     ) {
-        return unchanged(statuses, Answer::Refused(Refusal::RulesBroken));
+        return unchanged(statuses, Reply::Refused(Refusal::RulesBroken));
     }
     if wrong_lengths(request.len(), response.len()) {
-        return unchanged(statuses, Answer::Refused(Refusal::WrongLength));
+        return unchanged(statuses, Reply::Refused(Refusal::WrongLength));
     }
     answered(
         codes,
@@ -199,11 +199,11 @@ fn respond<'a>(
 
 // Answers one request.
 pub fn serve(record: TrailerRecord, request: &[u8], functional: bool, response: &mut [u8]) -> Served
-    ensures { λ r. ⌜ (withStatuses «record» (r .statuses) ≡ outcomeOf «record» (now (request .entry)) functional (now (response .entry)) .after)
-        × ((r .answer ≡ outcomeOf «record» (now (request .entry)) functional (now (response .entry)) .answer)
-        × (now (response .exit) ≡ outcomeOf «record» (now (request .entry)) functional (now (response .entry)) .response)) ⌝ }
+    ensures { λ r. ⌜ (withStatuses «record» (r .statuses) ≡ servedOf «record» (now (request .entry)) functional (now (response .entry)) .after)
+        × ((r .reply ≡ servedOf «record» (now (request .entry)) functional (now (response .entry)) .reply)
+        × (now (response .exit) ≡ servedOf «record» (now (request .entry)) functional (now (response .entry)) .response)) ⌝ }
 {
-    respond(
+    serve_parts(
         &record.codes,
         &record.statuses,
         record.count,

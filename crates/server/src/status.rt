@@ -1,42 +1,18 @@
 // The host sets the status of one code: the record goes in, and its statuses come back.
-use crate::faults::place;
+use crate::faults::place_among;
 use crate::trailer::TrailerRecord;
-use crate::trailer::sound;
+use crate::trailer::sound_record;
 use crate::trailer::status_within;
+use identifiers::Answer;
 use identifiers::Refusal;
 ghost use mathlib.Core.Path.{_≡_};
 ghost use Rattle.server.specs.Trailer.{withStatuses};
 ghost use Rattle.server.specs.Status.{settingOf};
-ghost use Rattle.server.specs.Told.{statusTold};
-
-pub enum StatusAnswer {
-    Refused(Refusal),
-    Set,
-}
 
 // What a setting leaves behind: of the record only the statuses can change.
 pub struct StatusSet {
     pub statuses: [u8; 63],
-    pub answer: StatusAnswer,
-}
-
-// The setter's answer in numbers: the refusal, 0 for none.
-#[repr(C)]
-pub struct StatusAnswerTold {
-    pub refusal: u8,
-}
-
-impl StatusAnswer {
-    pub fn told(self) -> StatusAnswerTold
-        ensures { λ r. ⌜ r ≡ statusTold self ⌝ }
-    {
-        match self {
-            StatusAnswer::Refused(why) => StatusAnswerTold {
-                refusal: why.number(),
-            },
-            StatusAnswer::Set => StatusAnswerTold { refusal: 0 },
-        }
-    }
+    pub answer: Answer,
 }
 
 // Sets the status of one code: refusal 1 for the record, 18 where the code is not held, 19 for a status outside the mask.
@@ -44,7 +20,7 @@ pub fn set_status(record: TrailerRecord, code: u32, status: u8) -> StatusSet
     ensures { λ r. ⌜ (withStatuses «record» (r .statuses) ≡ settingOf «record» code status .after) × (r .answer ≡ settingOf «record» code status .answer) ⌝ }
 {
     let mut statuses = record.statuses;
-    if !sound(
+    if !sound_record(
         &record.codes,
         &record.statuses,
         record.count,
@@ -53,20 +29,20 @@ pub fn set_status(record: TrailerRecord, code: u32, status: u8) -> StatusSet
         &record.lengths,
         record.held,
     ) {
-        let answer = StatusAnswer::Refused(Refusal::RulesBroken);
+        let answer = Answer::Refused(Refusal::RulesBroken);
         return StatusSet { statuses, answer };
     }
     let count = record.count as usize;
-    let i = place(&record.codes, count, code);
+    let i = place_among(&record.codes, count, code);
     if count <= i {
-        let answer = StatusAnswer::Refused(Refusal::CodeNotHeld);
+        let answer = Answer::Refused(Refusal::CodeNotHeld);
         return StatusSet { statuses, answer };
     }
     if !status_within(record.availability, status) {
-        let answer = StatusAnswer::Refused(Refusal::StatusOutsideMask);
+        let answer = Answer::Refused(Refusal::StatusOutsideMask);
         return StatusSet { statuses, answer };
     }
     statuses[i] = status;
-    let answer = StatusAnswer::Set;
+    let answer = Answer::Done;
     StatusSet { statuses, answer }
 }

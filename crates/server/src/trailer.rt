@@ -1,5 +1,6 @@
 // The trailer record, and the test of its rules: one loop over each array.
-use crate::mask::mask_kept;
+use crate::mask::sound_mask;
+use identifiers::Answer;
 use identifiers::Refusal;
 ghost use mathlib.Core.Path.{_≡_};
 ghost use mathlib.Core.List.{List};
@@ -9,7 +10,6 @@ ghost use lib.ListN.{getD};
 ghost use Rattle.identifiers.specs.Choice.{both};
 ghost use Rattle.identifiers.specs.Below.{allBelow};
 ghost use Rattle.server.specs.Trailer.{ascending, statusWithin, lengthWithin, soundRecord, recordOf, checkedAs};
-ghost use Rattle.server.specs.Told.{checkedTold};
 
 // The places past count, past held, and past a datum's length are free. Each identifier has 32 bytes of room.
 #[repr(C)]
@@ -24,32 +24,21 @@ pub struct TrailerRecord {
     pub held: u8,
 }
 
-pub enum RecordChecked {
-    Sound,
-    Refused(Refusal),
-}
-
-// The check's answer in numbers: the refusal, 0 for none.
-#[repr(C)]
-pub struct RecordCheckedTold {
-    pub refusal: u8,
-}
-
 fn codes_ascend(codes: &[u32; 63], count: usize) -> bool
     requires { ⌜ count ≤ 63 ⌝ }
     ensures { λ r. ⌜ r ≡ ascending (now (codes .entry)) count ⌝ }
 {
-    let mut kept = true;
+    let mut sound = true;
     let mut i = 0;
     while i + 1 < count {
-        kept = kept & (codes[i] < codes[i + 1]);
+        sound = sound & (codes[i] < codes[i + 1]);
         i += 1;
     }
-    kept
+    sound
 }
 
 // The last of codes that ascend is the greatest: it alone is held against FFFFFF.
-fn codes_kept(codes: &[u32; 63], count: usize) -> bool
+fn sound_codes(codes: &[u32; 63], count: usize) -> bool
     requires { ⌜ count ≤ 63 ⌝ }
     ensures { λ r. ⌜ r ≡ both (allBelow (λ i. ltb (getD (now (codes .entry)) i 0) 0xFFFFFF) count) (ascending (now (codes .entry)) count) ⌝ }
 {
@@ -70,43 +59,43 @@ fn statuses_within(statuses: &[u8; 63], availability: u8, count: usize) -> bool
     requires { ⌜ count ≤ 63 ⌝ }
     ensures { λ r. ⌜ r ≡ allBelow (λ i. statusWithin availability (getD (now (statuses .entry)) i 0)) count ⌝ }
 {
-    let mut kept = true;
+    let mut sound = true;
     let mut i = 0;
     while i < count {
-        kept = kept & status_within(availability, statuses[i]);
+        sound = sound & status_within(availability, statuses[i]);
         i += 1;
     }
-    kept
+    sound
 }
 
 fn identifiers_ascend(identifiers: &[u16; 16], held: usize) -> bool
     requires { ⌜ held ≤ 16 ⌝ }
     ensures { λ r. ⌜ r ≡ ascending (now (identifiers .entry)) held ⌝ }
 {
-    let mut kept = true;
+    let mut sound = true;
     let mut k = 0;
     while k + 1 < held {
-        kept = kept & (identifiers[k] < identifiers[k + 1]);
+        sound = sound & (identifiers[k] < identifiers[k + 1]);
         k += 1;
     }
-    kept
+    sound
 }
 
 fn lengths_within(lengths: &[u8; 16], held: usize) -> bool
     requires { ⌜ held ≤ 16 ⌝ }
     ensures { λ r. ⌜ r ≡ allBelow (λ k. lengthWithin (getD (now (lengths .entry)) k 0)) held ⌝ }
 {
-    let mut kept = true;
+    let mut sound = true;
     let mut k = 0;
     while k < held {
-        kept = kept & ((1 <= lengths[k]) & (lengths[k] <= 32));
+        sound = sound & ((1 <= lengths[k]) & (lengths[k] <= 32));
         k += 1;
     }
-    kept
+    sound
 }
 
 // Does a record keep its rules, whatever its data bytes are.
-pub fn sound<'a>(
+pub fn sound_record<'a>(
     codes: &'a [u32; 63],
     statuses: &'a [u8; 63],
     count: u8,
@@ -123,18 +112,18 @@ pub fn sound<'a>(
     if 16 < held {
         return false;
     }
-    mask_kept(availability)
-        & codes_kept(codes, count as usize)
+    sound_mask(availability)
+        & sound_codes(codes, count as usize)
         & statuses_within(statuses, availability, count as usize)
         & identifiers_ascend(identifiers, held as usize)
         & lengths_within(lengths, held as usize)
 }
 
 // Does a record keep its rules: refusal 1 where it does not.
-pub fn check(record: TrailerRecord) -> RecordChecked
+pub fn check(record: TrailerRecord) -> Answer
     ensures { λ r. ⌜ r ≡ checkedAs «record» ⌝ }
 {
-    if sound(
+    if sound_record(
         &record.codes,
         &record.statuses,
         record.count,
@@ -143,20 +132,7 @@ pub fn check(record: TrailerRecord) -> RecordChecked
         &record.lengths,
         record.held,
     ) {
-        return RecordChecked::Sound;
+        return Answer::Done;
     }
-    RecordChecked::Refused(Refusal::RulesBroken)
-}
-
-impl RecordChecked {
-    pub fn told(self) -> RecordCheckedTold
-        ensures { λ r. ⌜ r ≡ checkedTold self ⌝ }
-    {
-        match self {
-            RecordChecked::Sound => RecordCheckedTold { refusal: 0 },
-            RecordChecked::Refused(why) => RecordCheckedTold {
-                refusal: why.number(),
-            },
-        }
-    }
+    Answer::Refused(Refusal::RulesBroken)
 }

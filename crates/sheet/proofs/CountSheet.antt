@@ -13,15 +13,15 @@ use Rattle.identifiers.specs.Below.{listBelow}
 use Rattle.identifiers.specs.Bytes.{Puts}
 use Rattle.identifiers.specs.Refusals.{refusal, numberOf}
 use Rattle.sheet.specs.Basis.{basisOf}
-use Rattle.sheet.specs.Judge.{judged}
+use Rattle.sheet.specs.Sheets.{sheetRead}
 use Rattle.sheet.specs.Readings.{readingsIn, readingOf, readingBytes, sheetOf, Sound, EachSound}
-use Rattle.sheet.specs.Text.{decimal, hex, header, blank, newline, wordOf, lineOf, refusalLine, valueFrom, newlines}
+use Rattle.sheet.specs.Text.{pageSize, decimal, hex, header, blank, newline, wordOf, lineOf, refusalLine, valueFrom, newlines}
 use Rattle.sheet.specs.Printed.{printed}
 use Rattle.identifiers.specs.declared.refusal.Refusal.{Refusal}
-use Rattle.sheet.specs.declared.answer.Judged.the-variants.{Accepted, Refused}
-use Rattle.sheet.specs.declared.reading.Reading.{Reading}
+use Rattle.sheet.specs.declared.sheet_read.SheetRead.the-variants.{Accepted, Refused}
+use Rattle.sheet.specs.declared.reading.CountReading.{CountReading}
 use Rattle.sheet.proofs.LawsFields.{position-range}
-use Rattle.sheet.proofs.LawsJudge.{accepted-short, judged-21}
+use Rattle.sheet.proofs.LawsSheets.{accepted-short, sheet-21}
 use Rattle.sheet.proofs.LawsEarliest.{Earliest, earliest-then-lowest, earliest-refused, refused-range}
 use Rattle.sheet.proofs.LawsReadings.{accepted-whole, accepted-length, whole-accepted}
 use Rattle.sheet.proofs.LawsStands.{Bytes, whole-stands, whole-sound, stands-whole, stands-reading, length-sheet, sheet-stands, each-sound, listed}
@@ -37,7 +37,7 @@ pub record AcceptedSheet (s : List ℕ) : Type 0 where
   pub text : printed s ≡ header ++ listBelow (λ k. lineOf (readingOf s k)) (readingsIn s)
   pub lines : newlines (printed s) ≡ readingsIn s + 1
 
-pub accepted-sheet : (s : List ℕ) → Bytes s → judged s ≡ Accepted → AcceptedSheet s
+pub accepted-sheet : (s : List ℕ) → Bytes s → sheetRead s ≡ Accepted → AcceptedSheet s
 accepted-sheet s b e =
     let l = accepted-length s e in
     let t = printed-accepted s e in
@@ -51,7 +51,7 @@ accepted-sheet s b e =
     }
 
 -- a line says its reading: the columns "decimal, hex, hex, decimal, word" say position, mask, available, count and basis
-pub record LineSays (r : Reading) : Type 0 where
+pub record LineSays (r : CountReading) : Type 0 where
   pub columns : lineOf r
       ≡ decimal (r .position) ++ blank ++ hex (r .mask) ++ blank ++ hex (r .available) ++ blank ++ decimal (r .count) ++ blank ++ wordOf (basisOf (r .mask) (r .available)) ++ newline
   pub position : valueFrom 10 0 (decimal (r .position)) ≡ r .position
@@ -59,18 +59,18 @@ pub record LineSays (r : Reading) : Type 0 where
   pub available : valueFrom 16 0 (hex (r .available)) ≡ r .available
   pub count : valueFrom 10 0 (decimal (r .count)) ≡ r .count
 
-pub line-says : (r : Reading) → Sound r → LineSays r
+pub line-says : (r : CountReading) → Sound r → LineSays r
 unfolding lineOf
 line-says r h =
     record { columns = refl; position = decimal-says (r .position) (omega (arith, position-range (r .position) (h .position) .1)); mask = hex-says (r .mask); available = hex-says (r .available); count = decimal-says (r .count) (omega (arith, h .count)) }
 
 -- ---- readings written one after the other are accepted, and read back
-pub record WrittenSheet (rs : List Reading) : Type 0 where
-  pub accepted : judged (sheetOf rs) ≡ Accepted
+pub record WrittenSheet (rs : List CountReading) : Type 0 where
+  pub accepted : sheetRead (sheetOf rs) ≡ Accepted
   pub as-many : readingsIn (sheetOf rs) ≡ length rs
-  pub back : (k : ℕ) (other : Reading) → k < length rs → readingOf (sheetOf rs) k ≡ getD rs k other
+  pub back : (k : ℕ) (other : CountReading) → k < length rs → readingOf (sheetOf rs) k ≡ getD rs k other
 
-pub written-sheet : (rs : List Reading) → EachSound rs → length rs ≤ 3855 → WrittenSheet rs
+pub written-sheet : (rs : List CountReading) → EachSound rs → length rs ≤ 3855 → WrittenSheet rs
 unfolding readingsIn
 written-sheet rs h l =
     let e = length-sheet rs in
@@ -81,10 +81,10 @@ written-sheet rs h l =
     }
 
 -- ---- refusals: 21 exactly where the input is too long; else the earliest field, then the lowest number; and only its line is printed
-pub too-long : (s : List ℕ) → 65535 < length s → judged s ≡ Refused (refusal 21) 0
-too-long = judged-21
+pub too-long : (s : List ℕ) → 65535 < length s → sheetRead s ≡ Refused (refusal 21) 0
+too-long = sheet-21
 
-pub only-too-long : (s : List ℕ) (offset : ℕ) → judged s ≡ Refused (refusal 21) offset → 65535 < length s
+pub only-too-long : (s : List ℕ) (offset : ℕ) → sheetRead s ≡ Refused (refusal 21) offset → 65535 < length s
 only-too-long s offset e = by-length (ltb 65535 (length s)) refl
   where
     by-length : (t : Bool) → ltb 65535 (length s) ≡ t → 65535 < length s
@@ -95,7 +95,7 @@ only-too-long s offset e = by-length (ltb 65535 (length s)) refl
         absurd (omega arith)
 
 pub earliest-field-then-lowest : (s : List ℕ) (why : Refusal) (offset : ℕ) → length s ≤ 65535
-    → (judged s ≡ Refused why offset → Earliest s (numberOf why) offset) × (Earliest s (numberOf why) offset → judged s ≡ Refused why offset)
+    → (sheetRead s ≡ Refused why offset → Earliest s (numberOf why) offset) × (Earliest s (numberOf why) offset → sheetRead s ≡ Refused why offset)
 earliest-field-then-lowest s why offset l = (earliest-then-lowest s why offset l, earliest-refused s why offset l)
 
 pub record RefusedSheet (s : List ℕ) (why : Refusal) (offset : ℕ) : Type 0 where
@@ -109,12 +109,12 @@ record Small (s : List ℕ) (why : Refusal) (offset : ℕ) : Type 0 where
   number : numberOf why ≤ 24
   place : offset ≤ 65535
 
-refused-small : (s : List ℕ) (why : Refusal) (offset : ℕ) → judged s ≡ Refused why offset → Small s why offset
+refused-small : (s : List ℕ) (why : Refusal) (offset : ℕ) → sheetRead s ≡ Refused why offset → Small s why offset
 refused-small s why offset e = by-length (ltb 65535 (length s)) refl
   where
     by-length : (t : Bool) → ltb 65535 (length s) ≡ t → Small s why offset
     by-length true h =
-        let same : Refused (refusal 21) 0 ≡ Refused why offset = sym (judged-21 s (ltb-true _ _ h)) ∙ e in
+        let same : Refused (refusal 21) 0 ≡ Refused why offset = sym (sheet-21 s (ltb-true _ _ h)) ∙ e in
         let w : refusal 21 ≡ why = cc in
         let o : 0 ≡ offset = cc in
         record { number = omega (arith, ap numberOf w); place = omega arith }
@@ -123,7 +123,7 @@ refused-small s why offset e = by-length (ltb 65535 (length s)) refl
         let r = refused-range s why offset l e in
         record { number = r .0 .1; place = omega (arith, r .1) }
 
-pub refused-sheet : (s : List ℕ) (why : Refusal) (offset : ℕ) → judged s ≡ Refused why offset → RefusedSheet s why offset
+pub refused-sheet : (s : List ℕ) (why : Refusal) (offset : ℕ) → sheetRead s ≡ Refused why offset → RefusedSheet s why offset
 refused-sheet s why offset e =
     let t = printed-refused s why offset e in
     let r = refused-small s why offset e in
@@ -135,5 +135,5 @@ refused-sheet s why offset e =
     }
 
 -- ---- the page: where it holds a text as `print`'s contract says, that is the whole text, and every byte after it is as it was
-pub page-holds : {page after : List ℕ} {end : ℕ} (s : List ℕ) → length page ≡ 88701 → Puts page 0 (printed s) end after → (take end after ≡ printed s) × (drop end after ≡ drop end page)
+pub page-holds : {page after : List ℕ} {end : ℕ} (s : List ℕ) → length page ≡ pageSize → Puts page 0 (printed s) end after → (take end after ≡ printed s) × (drop end after ≡ drop end page)
 page-holds s h p = (print-whole s h p, print-rest s p)

@@ -1,4 +1,4 @@
--- "Earliest field first, then lowest": the refusal of an input that is not too long, said without the judge. By the rungs of a
+-- "Earliest field first, then lowest": the refusal of an input that is not too long, said without the reader. By the rungs of a
 -- field, and by the first field that refuses.
 use mathlib.Core.Path.{_≡_, refl, sym, ap, _∙_}
 use mathlib.Core.Bool.{Bool, true, false, not, false≢true}
@@ -15,13 +15,13 @@ use Rattle.identifiers.specs.Choice.{pick}
 use Rattle.identifiers.specs.Refusals.{refusal, numberOf}
 use Rattle.identifiers.proofs.LawsChoice.{pick-false}
 use Rattle.identifiers.proofs.LawsRefusals.{refusal-of-number}
-use Rattle.sheet.specs.Fields.{pairAt, cutShort, sizeOf, wrongForm, contentKept}
-use Rattle.sheet.specs.Judge.{fieldOffset, fieldTag, fieldAt, fieldsBegun, judged, applies}
+use Rattle.sheet.specs.Fields.{pairAt, cutShort, sizeOf, wrongForm, soundContent}
+use Rattle.sheet.specs.Sheets.{fieldOffset, fieldTag, fieldAt, fieldsBegun, sheetRead, applies}
 use Rattle.identifiers.specs.declared.refusal.Refusal.{Refusal}
-use Rattle.sheet.specs.declared.answer.Judged.{Judged}
-use Rattle.sheet.specs.declared.answer.Judged.the-variants.{Accepted, Refused}
-use Rattle.sheet.proofs.LawsFields.{right-form, content-stands, field-22, field-23, field-24, field-accepted, field-kept, not-accepted}
-use Rattle.sheet.proofs.LawsJudge.{first-all, first-each, first-stops, first-of, judged-fields}
+use Rattle.sheet.specs.declared.sheet_read.SheetRead.{SheetRead}
+use Rattle.sheet.specs.declared.sheet_read.SheetRead.the-variants.{Accepted, Refused}
+use Rattle.sheet.proofs.LawsFields.{right-form, content-stands, field-22, field-23, field-24, field-accepted, sound-field, not-accepted}
+use Rattle.sheet.proofs.LawsSheets.{first-all, first-each, first-stops, first-of, sheet-fields}
 use Rattle.sheet.proofs.LawsReadings.{by-three, one-size, two-size, three-size}
 
 -- the number applies to the field, and no lower one does
@@ -44,8 +44,8 @@ module _ (s : List ℕ) (j : ℕ) where
   wrong : Bool
   wrong = wrongForm s (fieldOffset j) (fieldTag j)
 
-  kept : Bool
-  kept = contentKept s (fieldOffset j + 3) (fieldTag j)
+  sound : Bool
+  sound = soundContent s (fieldOffset j + 3) (fieldTag j)
 
   -- ---- which numbers apply
   applies-22 : applies s j 22 ≡ cut
@@ -56,8 +56,8 @@ module _ (s : List ℕ) (j : ℕ) where
   unfolding applies pick wrong
   applies-23 = refl
 
-  applies-24 : applies s j 24 ≡ not kept
-  unfolding applies pick kept
+  applies-24 : applies s j 24 ≡ not sound
+  unfolding applies pick sound
   applies-24 = refl
 
   applies-other : (n : ℕ) → (n ≡ 22 → ⊥) → (n ≡ 23 → ⊥) → (n ≡ 24 → ⊥) → applies s j n ≡ false
@@ -73,14 +73,14 @@ module _ (s : List ℕ) (j : ℕ) where
   below-24 : cut ≡ false → wrong ≡ false → (m : ℕ) → m < 24 → applies s j m ≡ false
   below-24 c f m l = ⊎-elim (λ (q : m ≡ 23). ap (applies s j) q ∙ applies-23 ∙ f) (below-23 c m) (eq-or-lt-of-le (omega arith))
 
-  below-25 : cut ≡ false → wrong ≡ false → kept ≡ true → (m : ℕ) → m < 25 → applies s j m ≡ false
+  below-25 : cut ≡ false → wrong ≡ false → sound ≡ true → (m : ℕ) → m < 25 → applies s j m ≡ false
   below-25 c f k m l = ⊎-elim (λ (q : m ≡ 24). ap (applies s j) q ∙ applies-24 ∙ ap not k) (below-24 c f m) (eq-or-lt-of-le (omega arith))
 
   -- ---- the field's answer, and the numbers that apply to it
   pub accepted-none : fieldAt s j ≡ Accepted → (m : ℕ) → applies s j m ≡ false
-  unfolding fieldAt cut wrong kept
+  unfolding fieldAt cut wrong sound
   accepted-none e m =
-      let k = field-kept s (fieldOffset j) (fieldTag j) e in
+      let k = sound-field s (fieldOffset j) (fieldTag j) e in
       by-test (ltb m 25) refl (below-25 (k .whole) (k .form) (k .content) m)
     where
       by-test : (t : Bool) → ltb m 25 ≡ t → (m < 25 → applies s j m ≡ false) → applies s j m ≡ false
@@ -88,12 +88,12 @@ module _ (s : List ℕ) (j : ℕ) where
       by-test false h f = let l : 25 ≤ m = ltb-false _ _ h in applies-other m (λ e. omega arith) (λ e. omega arith) (λ e. omega arith)
 
   pub none-accepted : ((m : ℕ) → applies s j m ≡ false) → fieldAt s j ≡ Accepted
-  unfolding fieldAt cut wrong kept
+  unfolding fieldAt cut wrong sound
   none-accepted h = field-accepted s _ _ (sym applies-22 ∙ h 22) (sym applies-23 ∙ h 23) (not-false _ (sym applies-24 ∙ h 24))
 
   pub refused-lowest : (why : Refusal) (o : ℕ) → fieldAt s j ≡ Refused why o → (o ≡ fieldOffset j) × Lowest s j (numberOf why)
-  unfolding fieldAt cut wrong kept
-  refused-lowest why o e = by-tests cut wrong kept refl refl refl
+  unfolding fieldAt cut wrong sound
+  refused-lowest why o e = by-tests cut wrong sound refl refl refl
     where
       is : (x : Refusal) → fieldAt s j ≡ Refused x (fieldOffset j) → Lowest s j (numberOf x) → (o ≡ fieldOffset j) × Lowest s j (numberOf why)
       is x h l =
@@ -102,7 +102,7 @@ module _ (s : List ℕ) (j : ℕ) where
           let p : o ≡ fieldOffset j = cc in
           (p, rw w at l)
 
-      by-tests : (c f k : Bool) → cut ≡ c → wrong ≡ f → kept ≡ k → (o ≡ fieldOffset j) × Lowest s j (numberOf why)
+      by-tests : (c f k : Bool) → cut ≡ c → wrong ≡ f → sound ≡ k → (o ≡ fieldOffset j) × Lowest s j (numberOf why)
       by-tests true f k p q r = is (refusal 22) (field-22 s _ _ p) (record { given = applies-22 ∙ p; no-lower = below-22 })
       by-tests false true k p q r = is (refusal 23) (field-23 s _ _ p q) (record { given = applies-23 ∙ q; no-lower = below-23 p })
       by-tests false false false p q r = is (refusal 24) (field-24 s _ _ p q r) (record { given = applies-24 ∙ ap not r; no-lower = below-24 p q })
@@ -118,7 +118,7 @@ module _ (s : List ℕ) (j : ℕ) where
   pub lowest-refused : (why : Refusal) → Lowest s j (numberOf why) → fieldAt s j ≡ Refused why (fieldOffset j)
   lowest-refused why l = by-answer (fieldAt s j) refl
     where
-      by-answer : (v : Judged) → fieldAt s j ≡ v → fieldAt s j ≡ Refused why (fieldOffset j)
+      by-answer : (v : SheetRead) → fieldAt s j ≡ v → fieldAt s j ≡ Refused why (fieldOffset j)
       by-answer Accepted e = absurd (false≢true (sym (accepted-none e (numberOf why)) ∙ l .given))
       by-answer (Refused w o) e =
           let h = refused-lowest w o e in
@@ -143,7 +143,7 @@ next-offset j =
 pub field-ends : (s : List ℕ) (j : ℕ) → fieldAt s j ≡ Accepted → (fieldOffset j + 3 + pairAt s (fieldOffset j + 1) ≡ fieldOffset (j + 1)) × (fieldOffset (j + 1) ≤ length s)
 unfolding fieldAt
 field-ends s j e =
-    let k = field-kept s (fieldOffset j) (fieldTag j) e in
+    let k = sound-field s (fieldOffset j) (fieldTag j) e in
     let size = right-form s (fieldOffset j) (fieldTag j) (k .form) .1 in
     (omega (arith, size, next-offset j), omega (arith, content-stands s (fieldOffset j) (fieldTag j) (k .whole) (k .form), next-offset j))
 
@@ -153,9 +153,9 @@ offset-within s zero h = omega arith
 offset-within s (suc i) h = rw (add-one i) at (field-ends s i (h i (omega arith)) .1)
 
 -- ---- the whole input
-pub earliest-then-lowest : (s : List ℕ) (why : Refusal) (o : ℕ) → length s ≤ 65535 → judged s ≡ Refused why o → Earliest s (numberOf why) o
+pub earliest-then-lowest : (s : List ℕ) (why : Refusal) (o : ℕ) → length s ≤ 65535 → sheetRead s ≡ Refused why o → Earliest s (numberOf why) o
 earliest-then-lowest s why o h e =
-    let r = first-of (fieldAt s) (fieldsBegun s) why o (sym (judged-fields s h) ∙ e) in
+    let r = first-of (fieldAt s) (fieldsBegun s) why o (sym (sheet-fields s h) ∙ e) in
     let l = refused-lowest s (r .place) why o (r .refused) in
     record {
       field = r .place;
@@ -165,13 +165,13 @@ earliest-then-lowest s why o h e =
       lowest = l .1;
     }
 
-pub earliest-refused : (s : List ℕ) (why : Refusal) (o : ℕ) → length s ≤ 65535 → Earliest s (numberOf why) o → judged s ≡ Refused why o
+pub earliest-refused : (s : List ℕ) (why : Refusal) (o : ℕ) → length s ≤ 65535 → Earliest s (numberOf why) o → sheetRead s ≡ Refused why o
 earliest-refused s why o h e =
-    judged-fields s h
+    sheet-fields s h
     ∙ first-stops (fieldAt s) (e .field) (fieldsBegun s) why o (e .begun) (first-each (fieldAt s) (e .field) (λ i l. none-accepted s i (λ m. e .earlier i m l)))
     (lowest-refused s (e .field) why (e .lowest) ∙ ap (Refused why) (sym (e .place)))
 
-pub refused-range : (s : List ℕ) (why : Refusal) (o : ℕ) → length s ≤ 65535 → judged s ≡ Refused why o → ((22 ≤ numberOf why) × (numberOf why ≤ 24)) × (o ≤ length s)
+pub refused-range : (s : List ℕ) (why : Refusal) (o : ℕ) → length s ≤ 65535 → sheetRead s ≡ Refused why o → ((22 ≤ numberOf why) × (numberOf why ≤ 24)) × (o ≤ length s)
 refused-range s why o h e =
     let r = earliest-then-lowest s why o h e in
     (applies-range s (r .field) (numberOf why) (r .lowest .given), rw (r .place) (offset-within s (r .field) (λ i l. none-accepted s i (λ m. r .earlier i m l))))

@@ -10,15 +10,15 @@ use lib.ListN.{length, getD}
 use Rattle.identifiers.specs.Refusals.{refusal}
 use Rattle.identifiers.specs.declared.refusal.Refusal.{Refusal}
 use Rattle.identifiers.proofs.LawsChoice.{pick-true, pick-false, was-passed, was-taken, both-true, left-holds, right-decides, either-false}
-use Rattle.sheet.specs.Fields.{pairAt, left, cutShort, sizeOf, wrongForm, positionKept, responseKept, contentKept, fieldJudged}
-use Rattle.sheet.specs.declared.answer.Judged.the-variants.{Accepted, Refused}
+use Rattle.sheet.specs.Fields.{pairAt, bytesLeft, cutShort, sizeOf, wrongForm, soundPosition, soundResponse, soundContent, fieldRead}
+use Rattle.sheet.specs.declared.sheet_read.SheetRead.the-variants.{Accepted, Refused}
 
 -- ---- 22
-pub cut-head : (s : List ℕ) (at : ℕ) → left s at < 3 → true ≡ cutShort s at
+pub cut-head : (s : List ℕ) (at : ℕ) → bytesLeft s at < 3 → true ≡ cutShort s at
 unfolding cutShort
 cut-head s at h = left-holds _ (lt-ltb _ _ h)
 
-pub cut-content : (s : List ℕ) (at : ℕ) → 3 ≤ left s at → ltb (left s at - 3) (pairAt s (at + 1)) ≡ cutShort s at
+pub cut-content : (s : List ℕ) (at : ℕ) → 3 ≤ bytesLeft s at → ltb (bytesLeft s at - 3) (pairAt s (at + 1)) ≡ cutShort s at
 unfolding cutShort
 cut-content s at h = right-decides (le-ltb _ _ h) refl
 
@@ -64,52 +64,52 @@ pub content-stands : (s : List ℕ) (at tag : ℕ) → cutShort s at ≡ false �
 content-stands s at tag u f = omega (arith, uncut-whole s at u, right-form s at tag f .1)
 
 -- ---- 24
-pub position-range : (p : ℕ) → positionKept p ≡ true → (1 ≤ p) × (p ≤ 5)
-unfolding positionKept
+pub position-range : (p : ℕ) → soundPosition p ≡ true → (1 ≤ p) × (p ≤ 5)
+unfolding soundPosition
 position-range p e = let h = both-true _ _ e in (leb-true _ _ (h .0), leb-true _ _ (h .1))
 
-pub content-position : (s : List ℕ) (at tag : ℕ) → tag ≡ 1 → contentKept s at tag ≡ positionKept (getD s at 0)
-unfolding contentKept
+pub content-position : (s : List ℕ) (at tag : ℕ) → tag ≡ 1 → soundContent s at tag ≡ soundPosition (getD s at 0)
+unfolding soundContent
 content-position s at tag e = pick-true _ _ (eq-eqb _ _ e)
 
-pub content-response : (s : List ℕ) (at tag : ℕ) → tag ≡ 3 → contentKept s at tag ≡ responseKept s at
-unfolding contentKept
+pub content-response : (s : List ℕ) (at tag : ℕ) → tag ≡ 3 → soundContent s at tag ≡ soundResponse s at
+unfolding soundContent
 content-response s at tag e = let n : tag ≡ 1 → ⊥ = (λ h. omega arith) in pick-false _ _ (ne-eqb _ _ n) ∙ pick-true _ _ (eq-eqb _ _ e)
 
-pub content-mask : (s : List ℕ) (at tag : ℕ) → (tag ≡ 1 → ⊥) → (tag ≡ 3 → ⊥) → contentKept s at tag ≡ true
-unfolding contentKept
+pub content-mask : (s : List ℕ) (at tag : ℕ) → (tag ≡ 1 → ⊥) → (tag ≡ 3 → ⊥) → soundContent s at tag ≡ true
+unfolding soundContent
 content-mask s at tag n m = pick-false _ _ (ne-eqb _ _ n) ∙ pick-false _ _ (ne-eqb _ _ m)
 
 -- ---- the rungs
 module _ (s : List ℕ) (at tag : ℕ) where
-  pub field-22 : cutShort s at ≡ true → fieldJudged s at tag ≡ Refused (refusal 22) at
-  unfolding fieldJudged
+  pub field-22 : cutShort s at ≡ true → fieldRead s at tag ≡ Refused (refusal 22) at
+  unfolding fieldRead
   field-22 c = pick-true _ _ c
 
-  pub field-23 : cutShort s at ≡ false → wrongForm s at tag ≡ true → fieldJudged s at tag ≡ Refused (refusal 23) at
-  unfolding fieldJudged
+  pub field-23 : cutShort s at ≡ false → wrongForm s at tag ≡ true → fieldRead s at tag ≡ Refused (refusal 23) at
+  unfolding fieldRead
   field-23 c f = pick-false _ _ c ∙ pick-true _ _ f
 
-  pub field-24 : cutShort s at ≡ false → wrongForm s at tag ≡ false → contentKept s (at + 3) tag ≡ false → fieldJudged s at tag ≡ Refused (refusal 24) at
-  unfolding fieldJudged
+  pub field-24 : cutShort s at ≡ false → wrongForm s at tag ≡ false → soundContent s (at + 3) tag ≡ false → fieldRead s at tag ≡ Refused (refusal 24) at
+  unfolding fieldRead
   field-24 c f k = pick-false _ _ c ∙ pick-false _ _ f ∙ pick-false _ _ k
 
-  pub field-accepted : cutShort s at ≡ false → wrongForm s at tag ≡ false → contentKept s (at + 3) tag ≡ true → fieldJudged s at tag ≡ Accepted
-  unfolding fieldJudged
+  pub field-accepted : cutShort s at ≡ false → wrongForm s at tag ≡ false → soundContent s (at + 3) tag ≡ true → fieldRead s at tag ≡ Accepted
+  unfolding fieldRead
   field-accepted c f k = pick-false _ _ c ∙ pick-false _ _ f ∙ pick-true _ _ k
 
 -- ---- what an accepted field has
 pub not-accepted : (why : Refusal) (o : ℕ) → Refused why o ≡ Accepted → ⊥
 not-accepted why o e = let z : _≡_ {A = ℕ} 0 1 = cc in omega arith
 
-pub record Kept (s : List ℕ) (at tag : ℕ) : Type 0 where
+pub record SoundField (s : List ℕ) (at tag : ℕ) : Type 0 where
   pub whole : cutShort s at ≡ false
   pub form : wrongForm s at tag ≡ false
-  pub content : contentKept s (at + 3) tag ≡ true
+  pub content : soundContent s (at + 3) tag ≡ true
 
-pub field-kept : (s : List ℕ) (at tag : ℕ) → fieldJudged s at tag ≡ Accepted → Kept s at tag
-unfolding fieldJudged
-field-kept s at tag e =
+pub sound-field : (s : List ℕ) (at tag : ℕ) → fieldRead s at tag ≡ Accepted → SoundField s at tag
+unfolding fieldRead
+sound-field s at tag e =
     let a = was-passed _ _ _ _ (not-accepted (refusal 22) at) e in
     let b = was-passed _ _ _ _ (not-accepted (refusal 23) at) (a .1) in
     let c = was-taken _ _ _ _ (not-accepted (refusal 24) at) (b .1) in
@@ -121,14 +121,14 @@ pub record Head (s : List ℕ) (at tag size : ℕ) : Type 0 where
   pub high : getD s (at + 1) 0 ≡ 0
   pub low : getD s (at + 2) 0 ≡ size
 
-pub kept-head : (s : List ℕ) (at tag size : ℕ) → sizeOf tag ≡ size → size < 256 → Kept s at tag → Head s at tag size
-kept-head s at tag size z l k =
+pub sound-head : (s : List ℕ) (at tag size : ℕ) → sizeOf tag ≡ size → size < 256 → SoundField s at tag → Head s at tag size
+sound-head s at tag size z l k =
     let f = right-form s at tag (k .form) in
     let named : getD s (at + 1) 0 * 256 + getD s (at + 1 + 1) 0 ≡ sizeOf tag = f .1 in
     let place : at + 2 ≡ at + 1 + 1 = omega arith in
     record { tagged = f .0; high = omega arith; low = rw place (omega arith) }
 
-pub head-accepted : (s : List ℕ) (at tag size : ℕ) → sizeOf tag ≡ size → at + 3 + size ≤ length s → contentKept s (at + 3) tag ≡ true → Head s at tag size → fieldJudged s at tag ≡ Accepted
+pub head-accepted : (s : List ℕ) (at tag size : ℕ) → sizeOf tag ≡ size → at + 3 + size ≤ length s → soundContent s (at + 3) tag ≡ true → Head s at tag size → fieldRead s at tag ≡ Accepted
 head-accepted s at tag size z l k h =
     let place : at + 1 + 1 ≡ at + 2 = omega arith in
     let low : getD s (at + 1 + 1) 0 ≡ size = rw place (h .low) in

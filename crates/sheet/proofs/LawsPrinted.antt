@@ -13,23 +13,23 @@ use Rattle.identifiers.specs.Refusals.{numberOf}
 use Rattle.identifiers.proofs.LawsBelow.{list-none, list-suc}
 use Rattle.identifiers.proofs.LawsBytes.{drop-written, keeps-length, puts-whole}
 use Rattle.sheet.specs.Basis.{basisOf}
-use Rattle.sheet.specs.Judge.{judged}
+use Rattle.sheet.specs.Sheets.{sheetRead}
 use Rattle.sheet.specs.Readings.{readingsIn, readingOf}
-use Rattle.sheet.specs.Text.{decimalIn, hex, header, wordOf, lineOf, refusalLine}
+use Rattle.sheet.specs.Text.{pageSize, decimalIn, hex, header, wordOf, lineOf, refusalLine}
 use Rattle.sheet.specs.Printed.{linesOf, printedAs, printed}
 use Rattle.identifiers.specs.declared.refusal.Refusal.{Refusal}
-use Rattle.sheet.specs.declared.answer.Judged.{Judged}
-use Rattle.sheet.specs.declared.answer.Judged.the-variants.{Accepted, Refused}
+use Rattle.sheet.specs.declared.sheet_read.SheetRead.{SheetRead}
+use Rattle.sheet.specs.declared.sheet_read.SheetRead.the-variants.{Accepted, Refused}
 use Rattle.sheet.specs.declared.basis.Basis.{Basis}
 use Rattle.sheet.specs.declared.basis.Basis.the-variants.{None, Full, Part}
-use Rattle.sheet.specs.declared.reading.Reading.{Reading}
-use Rattle.sheet.proofs.LawsJudge.{accepted-short}
+use Rattle.sheet.specs.declared.reading.CountReading.{CountReading}
+use Rattle.sheet.proofs.LawsSheets.{accepted-short}
 
-pub printed-accepted : (s : List ℕ) → judged s ≡ Accepted → printed s ≡ header ++ linesOf s (readingsIn s)
+pub printed-accepted : (s : List ℕ) → sheetRead s ≡ Accepted → printed s ≡ header ++ linesOf s (readingsIn s)
 unfolding printed printedAs
 printed-accepted s e = rw e
 
-pub printed-refused : (s : List ℕ) (why : Refusal) (o : ℕ) → judged s ≡ Refused why o → printed s ≡ refusalLine (numberOf why) o
+pub printed-refused : (s : List ℕ) (why : Refusal) (o : ℕ) → sheetRead s ≡ Refused why o → printed s ≡ refusalLine (numberOf why) o
 unfolding printed printedAs
 printed-refused s why o e = rw e
 
@@ -51,7 +51,7 @@ length-word None = refl
 length-word Full = refl
 length-word Part = refl
 
-length-line : (r : Reading) → length (lineOf r) ≤ 23
+length-line : (r : CountReading) → length (lineOf r) ≤ 23
 unfolding lineOf hex
 length-line r = simp length-append (omega (arith, length-decimal 5 (r .position), length-decimal 5 (r .count), length-word (basisOf (r .mask) (r .available))))
 
@@ -64,21 +64,21 @@ unfolding refusalLine
 length-refusal n o = simp length-append (omega (arith, length-decimal 5 n, length-decimal 5 o))
 
 -- ---- the page
-pub printed-fits : (s : List ℕ) → length (printed s) ≤ 88701
+pub printed-fits : (s : List ℕ) → length (printed s) ≤ pageSize
 unfolding readingsIn
-printed-fits s = by-answer (judged s) refl
+printed-fits s = by-answer (sheetRead s) refl
   where
-    by-answer : (v : Judged) → judged s ≡ v → length (printed s) ≤ 88701
+    by-answer : (v : SheetRead) → sheetRead s ≡ v → length (printed s) ≤ pageSize
     by-answer Accepted e =
         omega (arith, ap length (printed-accepted s e), length-append header (linesOf s (readingsIn s)), length-lines (λ k. lineOf (readingOf s k)) 23 (readingsIn s) (λ k. length-line (readingOf s k)), accepted-short s e)
     by-answer (Refused why o) e = omega (arith, ap length (printed-refused s why o e), length-refusal (numberOf why) o)
 
 -- the place after the last byte lies in the page
-pub print-fits : {page after : List ℕ} {end : ℕ} (s : List ℕ) → length page ≡ 88701 → Puts page 0 (printed s) end after → end ≤ length after
+pub print-fits : {page after : List ℕ} {end : ℕ} (s : List ℕ) → length page ≡ pageSize → Puts page 0 (printed s) end after → end ≤ length after
 print-fits s h p = omega (arith, p .ends, printed-fits s, keeps-length p)
 
 -- and the page up to there is the text, no more and no less
-pub print-whole : {page after : List ℕ} {end : ℕ} (s : List ℕ) → length page ≡ 88701 → Puts page 0 (printed s) end after → take end after ≡ printed s
+pub print-whole : {page after : List ℕ} {end : ℕ} (s : List ℕ) → length page ≡ pageSize → Puts page 0 (printed s) end after → take end after ≡ printed s
 print-whole s h p = puts-whole (omega (arith, printed-fits s)) p
 
 pub print-rest : {page after : List ℕ} {end : ℕ} (s : List ℕ) → Puts page 0 (printed s) end after → drop end after ≡ drop end page

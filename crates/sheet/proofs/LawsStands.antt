@@ -10,10 +10,10 @@ use lib.Seq.{drop-cons, take-add, drop-append-add, getD-take, getD-drop}
 use Rattle.identifiers.specs.Below.{listBelow}
 use Rattle.identifiers.proofs.LawsChoice.{both-true, so}
 use Rattle.identifiers.proofs.LawsBelow.{list-none, list-suc}
-use Rattle.server.specs.Mask.{maskKept}
-use Rattle.sheet.specs.Fields.{pairAt, positionKept, responseKept}
+use Rattle.server.specs.Mask.{soundMask}
+use Rattle.sheet.specs.Fields.{pairAt, soundPosition, soundResponse}
 use Rattle.sheet.specs.Readings.{readingOf, readingBytes, Stands, sheetOf, Sound, EachSound, one}
-use Rattle.sheet.specs.declared.reading.Reading.{Reading}
+use Rattle.sheet.specs.declared.reading.CountReading.{CountReading}
 use Rattle.sheet.proofs.LawsReadings.{Whole}
 
 -- ---- the bytes of a reading
@@ -36,18 +36,18 @@ record Response (s : List ℕ) (at : ℕ) : Type 0 where
   service : getD s at 0 ≡ 0x59
   sub : getD s (at + 1) 0 ≡ 0x01
   format : getD s (at + 3) 0 ≡ 0x03
-  mask : maskKept (getD s (at + 2) 0) ≡ true
+  mask : soundMask (getD s (at + 2) 0) ≡ true
 
-response-is : (s : List ℕ) (at : ℕ) → responseKept s at ≡ true → Response s at
-unfolding responseKept
+response-is : (s : List ℕ) (at : ℕ) → soundResponse s at ≡ true → Response s at
+unfolding soundResponse
 response-is s at e =
     let a = both-true _ _ e in
     let b = both-true _ _ (a .1) in
     let c = both-true _ _ (b .1) in
     record { service = eqb-true _ _ (a .0); sub = eqb-true _ _ (b .0); format = eqb-true _ _ (c .0); mask = c .1 }
 
-is-response : (s : List ℕ) (at : ℕ) → Response s at → responseKept s at ≡ true
-unfolding responseKept
+is-response : (s : List ℕ) (at : ℕ) → Response s at → soundResponse s at ≡ true
+unfolding soundResponse
 is-response s at r = sym (so (eq-eqb _ _ (r .service)) (so (eq-eqb _ _ (r .sub)) (so (eq-eqb _ _ (r .format)) (sym (r .mask)))))
 
 high-byte : (h l : ℕ) → l < 256 → h ≡ (h * 256 + l) / 256
@@ -90,11 +90,11 @@ whole-sound s k b w =
     record { position = w .position; available = rw place (r .mask); count = omega (arith, b (17 * k + 15), b (17 * k + 15 + 1)) }
 
 -- ---- readings that were written
-stands-byte : (s : List ℕ) (at : ℕ) (r : Reading) → Stands s at r → (i p : ℕ) → p ≡ at + i → i < 17 → getD s p 0 ≡ getD (readingBytes r) i 0
+stands-byte : (s : List ℕ) (at : ℕ) (r : CountReading) → Stands s at r → (i p : ℕ) → p ≡ at + i → i < 17 → getD s p 0 ≡ getD (readingBytes r) i 0
 stands-byte s at r h i p e l =
     ap (λ (q : ℕ). getD s q 0) e ∙ sym (getD-drop at s i 0) ∙ sym (getD-take 17 (drop at s) i 0 l) ∙ ap (λ (x : List ℕ). getD x i 0) (h .bytes)
 
-pub stands-whole : (s : List ℕ) (at : ℕ) (r : Reading) → Sound r → Stands s at r → Whole s at
+pub stands-whole : (s : List ℕ) (at : ℕ) (r : CountReading) → Sound r → Stands s at r → Whole s at
 unfolding readingBytes
 stands-whole s at r o h =
     let byte = stands-byte s at r h in
@@ -103,21 +103,21 @@ stands-whole s at r o h =
       first = record { tagged = byte 0 at (omega arith) (omega arith); high = byte 1 (at + 1) refl (omega arith); low = byte 2 (at + 2) refl (omega arith) };
       second = record { tagged = byte 4 (at + 4) refl (omega arith); high = byte 5 (at + 4 + 1) (omega arith) (omega arith); low = byte 6 (at + 4 + 2) (omega arith) (omega arith) };
       third = record { tagged = byte 8 (at + 8) refl (omega arith); high = byte 9 (at + 8 + 1) (omega arith) (omega arith); low = byte 10 (at + 8 + 2) (omega arith) (omega arith) };
-      position = ap positionKept (byte 3 (at + 3) refl (omega arith)) ∙ o .position;
+      position = ap soundPosition (byte 3 (at + 3) refl (omega arith)) ∙ o .position;
       response =
           is-response s (at + 8 + 3)
           (record {
             service = byte 11 (at + 8 + 3) (omega arith) (omega arith);
             sub = byte 12 (at + 8 + 3 + 1) (omega arith) (omega arith);
             format = byte 14 (at + 8 + 3 + 3) (omega arith) (omega arith);
-            mask = ap maskKept (byte 13 (at + 8 + 3 + 2) (omega arith) (omega arith)) ∙ o .available;
+            mask = ap soundMask (byte 13 (at + 8 + 3 + 2) (omega arith) (omega arith)) ∙ o .available;
           });
     }
 
 two-bytes : (n : ℕ) → n / 256 * 256 + n % 256 ≡ n
 two-bytes n = omega arith
 
-pub stands-reading : (s : List ℕ) (k : ℕ) (r : Reading) → Stands s (17 * k) r → readingOf s k ≡ r
+pub stands-reading : (s : List ℕ) (k : ℕ) (r : CountReading) → Stands s (17 * k) r → readingOf s k ≡ r
 unfolding readingBytes readingOf
 stands-reading s k r h =
     let byte = stands-byte s (17 * k) r h in
@@ -128,21 +128,21 @@ stands-reading s k r h =
     let low : getD s (17 * k + 15 + 1) 0 ≡ r .count % 256 = byte 16 (17 * k + 15 + 1) (omega arith) (omega arith) in
     rw (position, mask, available, high, low, two-bytes (r .count))
 
-pub length-reading : (r : Reading) → length (readingBytes r) ≡ 17
+pub length-reading : (r : CountReading) → length (readingBytes r) ≡ 17
 unfolding readingBytes
 length-reading r = refl
 
-pub length-sheet : (rs : List Reading) → length (sheetOf rs) ≡ 17 * length rs
+pub length-sheet : (rs : List CountReading) → length (sheetOf rs) ≡ 17 * length rs
 unfolding sheetOf
 length-sheet [] = refl
 length-sheet (r ∷ rs) = omega (arith, length-append (readingBytes r) (sheetOf rs), length-reading r, length-sheet rs)
 
-stands-after : (r : Reading) (s : List ℕ) (at : ℕ) (q : Reading) → Stands s at q → Stands (readingBytes r ++ s) (17 + at) q
+stands-after : (r : CountReading) (s : List ℕ) (at : ℕ) (q : CountReading) → Stands s at q → Stands (readingBytes r ++ s) (17 + at) q
 unfolding readingBytes
 stands-after r s at q h =
     record { room = omega (arith, h .room, length-append (readingBytes r) s); bytes = ap (take 17) (drop-append-add (readingBytes r) s at) ∙ h .bytes }
 
-pub sheet-stands : (rs : List Reading) (k : ℕ) (d : Reading) → k < length rs → Stands (sheetOf rs) (17 * k) (getD rs k d)
+pub sheet-stands : (rs : List CountReading) (k : ℕ) (d : CountReading) → k < length rs → Stands (sheetOf rs) (17 * k) (getD rs k d)
 unfolding sheetOf readingBytes
 sheet-stands [] k d l = absurd (omega arith)
 sheet-stands (r ∷ rs) zero d l = record { room = omega (arith, length-append (readingBytes r) (sheetOf rs)); bytes = refl }
@@ -150,13 +150,13 @@ sheet-stands (r ∷ rs) (suc k) d l =
     let e : 17 * suc k ≡ 17 + 17 * k = omega arith in
     rw e (stands-after r (sheetOf rs) (17 * k) (getD rs k d) (sheet-stands rs k d (omega arith)))
 
-pub each-sound : (rs : List Reading) (k : ℕ) (d : Reading) → EachSound rs → k < length rs → Sound (getD rs k d)
+pub each-sound : (rs : List CountReading) (k : ℕ) (d : CountReading) → EachSound rs → k < length rs → Sound (getD rs k d)
 each-sound [] k d h l = absurd (omega arith)
 each-sound (r ∷ rs) zero d (one o h) l = o
 each-sound (r ∷ rs) (suc k) d (one o h) l = each-sound rs k d h (omega arith)
 
 -- ---- an input as the bytes of its readings
-pub listed : (s : List ℕ) (f : ℕ → Reading) (n : ℕ) → ((k : ℕ) → k < n → Stands s (17 * k) (f k)) → take (17 * n) s ≡ listBelow (λ k. readingBytes (f k)) n
+pub listed : (s : List ℕ) (f : ℕ → CountReading) (n : ℕ) → ((k : ℕ) → k < n → Stands s (17 * k) (f k)) → take (17 * n) s ≡ listBelow (λ k. readingBytes (f k)) n
 listed s f zero h = sym (list-none _)
 listed s f (suc n) h =
     let e : 17 * suc n ≡ 17 * n + 17 = omega arith in

@@ -12,10 +12,10 @@ use Rattle.identifiers.specs.Choice.{pick}
 use Rattle.identifiers.proofs.LawsChoice.{pick-true, pick-false, by-test}
 use Rattle.identifiers.proofs.LawsBelow.{list-none, list-suc}
 use Rattle.sheet.specs.Basis.{basisOf}
-use Rattle.sheet.specs.Text.{decimalIn, decimal, digit, hex, header, newline, wordOf, lineOf, refusalLine, digitValue, valueFrom, newlines}
+use Rattle.sheet.specs.Text.{decimalIn, decimal, hexDigit, hex, header, newline, wordOf, lineOf, refusalLine, digitValue, valueFrom, newlines}
 use Rattle.sheet.specs.declared.basis.Basis.{Basis}
 use Rattle.sheet.specs.declared.basis.Basis.the-variants.{None, Full, Part}
-use Rattle.sheet.specs.declared.reading.Reading.{Reading}
+use Rattle.sheet.specs.declared.reading.CountReading.{CountReading}
 
 -- ---- the digits
 pub decimal-none : (places n : ℕ) → places ≡ 0 → decimalIn places n ≡ []
@@ -41,8 +41,8 @@ digit-letter : (d : ℕ) → 10 ≤ d → digitValue (55 + d) ≡ d
 unfolding digitValue
 digit-letter d h = let l : 58 ≤ 55 + d = omega arith in pick-false _ _ (le-ltb _ _ l) ∙ omega arith
 
-digit-says : (d : ℕ) → digitValue (digit d) ≡ d
-unfolding digit
+digit-says : (d : ℕ) → digitValue (hexDigit d) ≡ d
+unfolding hexDigit
 digit-says d =
     by-test {P = λ (b : ℕ). digitValue b ≡ d} (ltb d 10) (λ e. record { holds = digit-decimal d (ltb-true _ _ e) }) (λ e. record { holds = digit-letter d (ltb-false _ _ e) }) .holds
 
@@ -90,8 +90,8 @@ newlines-decimal (suc p) n =
     (λ e. record { holds = newlines-append (decimalIn p (n / 10)) ((48 + n % 10) ∷ []) ∙ omega (arith, front, newlines-one (48 + n % 10) (omega arith)) })
     .holds
 
-digit-large : (d : ℕ) → 10 < digit d
-unfolding digit
+digit-large : (d : ℕ) → 10 < hexDigit d
+unfolding hexDigit
 digit-large d =
     let decimal-digit : 10 < 48 + d = omega arith in
     let letter : 10 < 55 + d = omega arith in
@@ -100,8 +100,8 @@ digit-large d =
 newlines-hex : (n : ℕ) → newlines (hex n) ≡ 0
 unfolding hex
 newlines-hex n =
-    newlines-append (digit (n / 16) ∷ []) (digit (n % 16) ∷ [])
-    ∙ omega (arith, newlines-one (digit (n / 16)) (digit-large (n / 16)), newlines-one (digit (n % 16)) (digit-large (n % 16)))
+    newlines-append (hexDigit (n / 16) ∷ []) (hexDigit (n % 16) ∷ [])
+    ∙ omega (arith, newlines-one (hexDigit (n / 16)) (digit-large (n / 16)), newlines-one (hexDigit (n % 16)) (digit-large (n % 16)))
 
 newlines-word : (b : Basis) → newlines (wordOf b) ≡ 0
 unfolding wordOf newlines pick
@@ -117,7 +117,7 @@ pub newlines-header : newlines header ≡ 1
 unfolding newlines pick
 newlines-header = refl
 
-pub newlines-line : (r : Reading) → newlines (lineOf r) ≡ 1
+pub newlines-line : (r : CountReading) → newlines (lineOf r) ≡ 1
 unfolding lineOf
 newlines-line r =
     simp newlines-append (omega (arith, newlines-decimal 5 (r .position), newlines-decimal 5 (r .count), newlines-hex (r .mask), newlines-hex (r .available), newlines-word (basisOf (r .mask) (r .available)), newlines-one 32 (omega arith), one-newline))

@@ -1,6 +1,6 @@
 -- The crate's laws, which belong to no one function.
 pub mod LawsFields
-pub mod LawsJudge
+pub mod LawsSheets
 pub mod LawsText
 pub mod LawsPrinted
 pub mod LawsReadings

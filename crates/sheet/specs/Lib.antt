@@ -1,6 +1,6 @@
 -- The root of the crate's definitions.
 pub mod Fields
-pub mod Judge
+pub mod Sheets
 pub mod Readings
 pub mod Basis
 pub mod Text

@@ -4,16 +4,16 @@ use mathlib.Core.Bool.{true}
 use mathlib.Core.List.{List, [], _∷_, _++_}
 use Prim.Native.Nat.{ℕ, _+_, _*_, _/_, _%_, _≤_, _<_}
 use lib.ListN.{getD, length, take, drop}
-use Rattle.server.specs.Mask.{maskKept}
-use Rattle.sheet.specs.Fields.{pairAt, positionKept}
-use Rattle.sheet.specs.declared.reading.Reading.{Reading}
+use Rattle.server.specs.Mask.{soundMask}
+use Rattle.sheet.specs.Fields.{pairAt, soundPosition}
+use Rattle.sheet.specs.declared.reading.CountReading.{CountReading}
 
 -- how many readings an accepted input has
 unfoldable pub readingsIn : List ℕ → ℕ
 readingsIn s = length s / 17
 
 -- what stands in reading k of an accepted input, from 0
-unfoldable pub readingOf : List ℕ → ℕ → Reading
+unfoldable pub readingOf : List ℕ → ℕ → CountReading
 readingOf s k =
     record {
       position = getD s (17 * k + 3) 0;
@@ -23,28 +23,28 @@ readingOf s k =
     }
 
 -- a reading written: its three fields, each a tag, a length high first, and a content
-unfoldable pub readingBytes : Reading → List ℕ
+unfoldable pub readingBytes : CountReading → List ℕ
 readingBytes r =
     (1 ∷ 0 ∷ 1 ∷ r .position ∷ [])
     ++ (2 ∷ 0 ∷ 1 ∷ r .mask ∷ [])
     ++ (3 ∷ 0 ∷ 6 ∷ 0x59 ∷ 0x01 ∷ r .available ∷ 0x03 ∷ r .count / 256 ∷ r .count % 256 ∷ [])
 
 -- the bytes of a reading stand in an input at an offset
-pub record Stands (s : List ℕ) (at : ℕ) (r : Reading) : Type 0 where
+pub record Stands (s : List ℕ) (at : ℕ) (r : CountReading) : Type 0 where
   pub room : at + 17 ≤ length s
   pub bytes : take 17 (drop at s) ≡ readingBytes r
 
 -- readings written one after the other
-unfoldable pub sheetOf : List Reading → List ℕ
+unfoldable pub sheetOf : List CountReading → List ℕ
 sheetOf [] = []
 sheetOf (r ∷ rs) = readingBytes r ++ sheetOf rs
 
 -- the contents that a sheet may have
-pub record Sound (r : Reading) : Type 0 where
-  pub position : positionKept (r .position) ≡ true
-  pub available : maskKept (r .available) ≡ true
+pub record Sound (r : CountReading) : Type 0 where
+  pub position : soundPosition (r .position) ≡ true
+  pub available : soundMask (r .available) ≡ true
   pub count : r .count < 65536
 
-pub data EachSound : List Reading → Type 0 where
+pub data EachSound : List CountReading → Type 0 where
   none : EachSound []
-  one : {r : Reading} {rs : List Reading} → Sound r → EachSound rs → EachSound (r ∷ rs)
+  one : {r : CountReading} {rs : List CountReading} → Sound r → EachSound rs → EachSound (r ∷ rs)

@@ -6,7 +6,11 @@ use Rattle.identifiers.specs.Choice.{pick}
 use Rattle.sheet.specs.Basis.{basisOf}
 use Rattle.sheet.specs.declared.basis.Basis.{Basis}
 use Rattle.sheet.specs.declared.basis.Basis.the-variants.{None, Full, Part}
-use Rattle.sheet.specs.declared.reading.Reading.{Reading}
+use Rattle.sheet.specs.declared.reading.CountReading.{CountReading}
+
+-- how many bytes the page has: the header, and a line of at most 23 bytes for each of 3,855 readings
+abbrev pub pageSize : ℕ
+pageSize = 88701
 
 -- a number in decimal, at most so many places, with no zeros in front
 unfoldable pub decimalIn : ℕ → ℕ → List ℕ
@@ -18,12 +22,12 @@ abbrev pub decimal : ℕ → List ℕ
 decimal n = decimalIn 5 n
 
 -- a digit below 16: 0 to 9, then A to F
-unfoldable pub digit : ℕ → ℕ
-digit d = pick (ltb d 10) (48 + d) (55 + d)
+unfoldable pub hexDigit : ℕ → ℕ
+hexDigit d = pick (ltb d 10) (48 + d) (55 + d)
 
 -- a byte in two capital hexadecimal digits
 unfoldable pub hex : ℕ → List ℕ
-hex n = digit (n / 16) ∷ digit (n % 16) ∷ []
+hex n = hexDigit (n / 16) ∷ hexDigit (n % 16) ∷ []
 
 -- "position mask available count basis" and a newline
 abbrev pub header : List ℕ
@@ -43,7 +47,7 @@ wordOf Full = 102 ∷ 117 ∷ 108 ∷ 108 ∷ []
 wordOf Part = 112 ∷ 97 ∷ 114 ∷ 116 ∷ []
 
 -- a reading's line, "columns decimal, hex, hex, decimal, word"
-unfoldable pub lineOf : Reading → List ℕ
+unfoldable pub lineOf : CountReading → List ℕ
 lineOf r =
     decimal (r .position) ++ blank ++ hex (r .mask) ++ blank ++ hex (r .available) ++ blank ++ decimal (r .count) ++ blank ++ wordOf (basisOf (r .mask) (r .available)) ++ newline
 

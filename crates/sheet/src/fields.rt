@@ -1,10 +1,10 @@
-// One field of a reading, judged: cut short, then wrong tag or length, then content.
+// One field of a reading: cut short, then wrong tag or length, then content.
 ghost use mathlib.Core.Path.{_≡_};
 ghost use mathlib.Core.Bool.{false};
 ghost use Prim.Native.Nat.{_+_, _*_, _≤_};
 ghost use lib.ListN.{length};
-ghost use Rattle.sheet.specs.Fields.{left, cutShort, sizeOf, wrongForm, positionKept, responseKept, contentKept, fieldJudged};
-use crate::answer::Judged;
+ghost use Rattle.sheet.specs.Fields.{bytesLeft, cutShort, sizeOf, wrongForm, soundPosition, soundResponse, soundContent, fieldRead};
+use crate::sheet_read::SheetRead;
 use identifiers::Refusal;
 
 // Two bytes, high first.
@@ -15,7 +15,7 @@ pub fn pair(high: u8, low: u8) -> usize
 }
 
 fn bytes_left(input: &[u8], at: usize) -> usize
-    ensures { λ r. ⌜ r ≡ left (now (input .entry)) at ⌝ }
+    ensures { λ r. ⌜ r ≡ bytesLeft (now (input .entry)) at ⌝ }
 {
     if input.len() < at {
         return 0;
@@ -54,15 +54,15 @@ fn wrong_form(input: &[u8], at: usize, tag: u8) -> bool
     pair(input[high], input[high + 1]) != size_of(tag)
 }
 
-fn position_kept(position: u8) -> bool
-    ensures { λ r. ⌜ r ≡ positionKept position ⌝ }
+fn sound_position(position: u8) -> bool
+    ensures { λ r. ⌜ r ≡ soundPosition position ⌝ }
 {
     (1 <= position) & (position <= 5)
 }
 
-fn response_kept(input: &[u8], at: usize) -> bool
+fn sound_response(input: &[u8], at: usize) -> bool
     requires { ⌜ at + 6 ≤ length (now input) ⌝ }
-    ensures { λ r. ⌜ r ≡ responseKept (now (input .entry)) at ⌝ }
+    ensures { λ r. ⌜ r ≡ soundResponse (now (input .entry)) at ⌝ }
 {
     if input[at] != 0x59 {
         return false;
@@ -73,34 +73,34 @@ fn response_kept(input: &[u8], at: usize) -> bool
     if input[at + 3] != 0x03 {
         return false;
     }
-    server::mask_kept(input[at + 2])
+    server::sound_mask(input[at + 2])
 }
 
-fn content_kept(input: &[u8], at: usize, tag: u8) -> bool
+fn sound_content(input: &[u8], at: usize, tag: u8) -> bool
     requires { ⌜ at + sizeOf tag ≤ length (now input) ⌝ }
-    ensures { λ r. ⌜ r ≡ contentKept (now (input .entry)) at tag ⌝ }
+    ensures { λ r. ⌜ r ≡ soundContent (now (input .entry)) at tag ⌝ }
 {
     if tag == 1 {
-        return position_kept(input[at]);
+        return sound_position(input[at]);
     }
     if tag == 3 {
-        return response_kept(input, at);
+        return sound_response(input, at);
     }
     true
 }
 
 // The field that begins at an offset and is to have a tag.
-pub fn field_judged(input: &[u8], at: usize, tag: u8) -> Judged
-    ensures { λ r. ⌜ r ≡ fieldJudged (now (input .entry)) at tag ⌝ }
+pub fn field_read(input: &[u8], at: usize, tag: u8) -> SheetRead
+    ensures { λ r. ⌜ r ≡ fieldRead (now (input .entry)) at tag ⌝ }
 {
     if cut_short(input, at) {
-        return Judged::Refused(Refusal::FieldCutShort, at);
+        return SheetRead::Refused(Refusal::FieldCutShort, at);
     }
     if wrong_form(input, at, tag) {
-        return Judged::Refused(Refusal::WrongTagOrLength, at);
+        return SheetRead::Refused(Refusal::WrongTagOrLength, at);
     }
-    if content_kept(input, at + 3, tag) {
-        return Judged::Accepted;
+    if sound_content(input, at + 3, tag) {
+        return SheetRead::Accepted;
     }
-    Judged::Refused(Refusal::WrongContent, at)
+    SheetRead::Refused(Refusal::WrongContent, at)
 }

@@ -2,17 +2,17 @@
 ghost use mathlib.Core.Path.{_≡_};
 ghost use Prim.Native.Nat.{_+_, _≤_};
 ghost use Rattle.identifiers.specs.Bytes.{Puts};
-ghost use Rattle.sheet.specs.Text.{wordOf, lineOf};
+ghost use Rattle.sheet.specs.Text.{pageSize, wordOf, lineOf};
 use crate::basis::Basis;
 use crate::basis::basis_of;
-use crate::reading::Reading;
+use crate::reading::CountReading;
 use crate::text::PAGE;
 use crate::text::put;
 use crate::text::put_decimal;
 use crate::text::put_hex;
 
 fn put_basis(page: &mut [u8; PAGE], at: usize, basis: Basis) -> usize
-    requires { ⌜ at + 4 ≤ 88701 ⌝ }
+    requires { ⌜ at + 4 ≤ pageSize ⌝ }
     ensures { λ r. ⌜ (r ≡ at + 4) × Puts (now (page .entry)) at (wordOf basis) r (now (page .exit)) ⌝ }
 {
     match basis {
@@ -22,8 +22,8 @@ fn put_basis(page: &mut [u8; PAGE], at: usize, basis: Basis) -> usize
     }
 }
 
-pub fn put_line(page: &mut [u8; PAGE], at: usize, reading: Reading) -> usize
-    requires { ⌜ at + 23 ≤ 88701 ⌝ }
+pub fn put_line(page: &mut [u8; PAGE], at: usize, reading: CountReading) -> usize
+    requires { ⌜ at + 23 ≤ pageSize ⌝ }
     ensures { λ r. ⌜ (r ≤ at + 23) × Puts (now (page .entry)) at (lineOf reading) r (now (page .exit)) ⌝ }
 {
     let a = put_decimal(page, at, reading.position as usize, 5);

@@ -1,22 +1,22 @@
 // The table, or the one line of a refusal, printed into a lent page.
-ghost use mathlib.Core.Path.{_≡_};
 ghost use Prim.Native.Nat.{_+_, _*_, _≤_};
 ghost use lib.ListN.{length};
 ghost use Rattle.identifiers.specs.Bytes.{Puts};
 ghost use Rattle.identifiers.specs.Refusals.{numberOf};
-ghost use Rattle.sheet.specs.Text.{refusalLine};
+ghost use Rattle.sheet.specs.Text.{pageSize, refusalLine};
 ghost use Rattle.sheet.specs.Printed.{linesOf, printed};
-use crate::answer::Judged;
-use crate::judging::judge;
 use crate::line::put_line;
+use crate::reader::read_sheet;
+use crate::reading::READING_SIZE;
 use crate::reading::reading_of;
+use crate::sheet_read::SheetRead;
 use crate::text::PAGE;
 use crate::text::put;
 use crate::text::put_decimal;
 use identifiers::Refusal;
 
 fn put_lines(page: &mut [u8; PAGE], start: usize, input: &[u8], readings: usize) -> usize
-    requires { ⌜ (17 * readings ≤ length (now input)) × (start + 23 * readings ≤ 88701) ⌝ }
+    requires { ⌜ (17 * readings ≤ length (now input)) × (start + 23 * readings ≤ pageSize) ⌝ }
     ensures { λ r. ⌜ Puts (now (page .entry)) start (linesOf (now (input .entry)) readings) r (now (page .exit)) ⌝ }
 {
     let mut at = start;
@@ -42,11 +42,11 @@ fn put_refusal(page: &mut [u8; PAGE], why: Refusal, offset: usize) -> usize
 pub fn print(input: &[u8], page: &mut [u8; PAGE]) -> usize
     ensures { λ r. ⌜ Puts (now (page .entry)) 0 (printed (now (input .entry))) r (now (page .exit)) ⌝ }
 {
-    match judge(input) {
-        Judged::Accepted => {
+    match read_sheet(input) {
+        SheetRead::Accepted => {
             let at = put(page, 0, b"position mask available count basis\n");
-            put_lines(page, at, input, input.len() / 17)
+            put_lines(page, at, input, input.len() / READING_SIZE)
         }
-        Judged::Refused(why, offset) => put_refusal(page, why, offset),
+        SheetRead::Refused(why, offset) => put_refusal(page, why, offset),
     }
 }

@@ -13,7 +13,7 @@ use Rattle.readings.specs.Positions.{placeOf, addressOf}
 use Rattle.readings.specs.declared.position.Position.{Position}
 use Rattle.readings.specs.declared.position.Position.the-variants.{One}
 use Rattle.receiver.specs.declared.node.Node.{Node}
-use Rattle.receiver.specs.declared.node.Answer.the-variants.{Done, Refused}
+use Rattle.identifiers.specs.declared.answer.Answer.the-variants.{Done, Refused}
 use Rattle.receiver.specs.declared.cutter.FrameCut.{FrameCut}
 use Rattle.receiver.specs.declared.frame.Judged.the-variants.{Single, First, OverLong, Consecutive}
 use Rattle.receiver.specs.Nodes.{freshNode, startOf, freshOf}

@@ -7,8 +7,8 @@ use lib.ListN.{replicate}
 use Rattle.identifiers.specs.Choice.{pick, both, either}
 use Rattle.identifiers.specs.Below.{allBelow}
 use Rattle.identifiers.specs.Bytes.{written}
-use Rattle.identifiers.specs.Identifiers.{reservedBit, fieldsOf, frameRead}
-use Rattle.readings.specs.Positions.{addresses, addressOf, positions, vehicleAmong, vehicleOf, positionAt, trailerAt}
+use Rattle.identifiers.specs.Identifiers.{reservedBit, fieldsOf, framePassing, readPassing, frameRead}
+use Rattle.readings.specs.Positions.{addresses, addressOf, positions, positionAmong, positionOf, positionAt, trailerAt}
 use Rattle.readings.specs.declared.position.Position.the-variants.{Zero, Two}
 use Rattle.receiver.specs.Receptions.{soundReception, regionAt}
 use Rattle.receiver.specs.Addressings.{unitIs, diagnostic, destinationOf, addressedFrom, addressedBy, addressedRead, addressingOf}
@@ -39,7 +39,7 @@ pub unmixed : requests held line
     ∷ record { at = 3; from = Zero; functional = false; bytes = 0xA1 ∷ 0xA2 ∷ 0xA3 ∷ 0xA4 ∷ 0xA5 ∷ 0xA6 ∷ 0xA7 ∷ 0xA8 ∷ [] }
     ∷ record { at = 2; from = Zero; functional = true; bytes = 0x3E ∷ 0x00 ∷ [] }
     ∷ []
-unfolding pick both either allBelow written reservedBit fieldsOf frameRead addresses addressOf positions vehicleAmong vehicleOf positionAt trailerAt
+unfolding pick both either allBelow written reservedBit fieldsOf framePassing readPassing frameRead addresses addressOf positions positionAmong positionOf positionAt trailerAt
     soundReception receptionAt withReception soundNode freshNode diagnostic destinationOf unitIs addressedFrom addressedBy addressedRead addressingOf
     singleOf firstLength firstOf carriedOf judgedFrom judgedOf gapOf regionAt leaving closing opened doneOf leftOf takenStep followed stepOf writtenBy
     ownOf judgedAt judgedBy stepBy movedBy movedOf storedIn receivedOf bufferAfter shownOf size offered handed handedAt requests frame held line

@@ -4,6 +4,7 @@ use Prim.Native.Nat.{ℕ}
 use lib.ListN.{length-replicate}
 use lib.Seq.{length-take-le}
 use borrow.Author.Needs.{needs}
+use Rattle.sheet.specs.Text.{pageSize}
 use Rattle.sheet.proofs.LawsPrinted.{print-fits, print-whole}
 use Rattle.countsheet.proofs.LawsInput.{within-bytes}
 use Rattle.countsheet.proofs.main.Statement.{statement}
@@ -34,13 +35,13 @@ slice-aggregate-send c =
     sym (length-take-le _ _ (within-bytes _ _ _ (at1 .n .given .1) (at2 .read-input .ensures)))
 
 array-share-prefix-page : tie.Need-array-share-prefix-page
-array-share-prefix-page c = print-fits _ (length-replicate {A = ℕ} 88701 0) (c .before .print .ensures)
+array-share-prefix-page c = print-fits _ (length-replicate {A = ℕ} pageSize 0) (c .before .print .ensures)
 
 slice-aggregate-send-2 : tie.Need-slice-aggregate-send-2
-slice-aggregate-send-2 c = sym (length-take-le _ _ (print-fits _ (length-replicate {A = ℕ} 88701 0) (c .before .before .print .ensures)))
+slice-aggregate-send-2 c = sym (length-take-le _ _ (print-fits _ (length-replicate {A = ℕ} pageSize 0) (c .before .before .print .ensures)))
 
 send-requires : tie.Need-send-requires
-send-requires c κs = print-whole _ (length-replicate {A = ℕ} 88701 0) (c .before .before .print .ensures)
+send-requires c κs = print-whole _ (length-replicate {A = ℕ} pageSize 0) (c .before .before .print .ensures)
 
 pub main-spec : {M : Type 1} → statement M
 main-spec =

@@ -1,6 +1,6 @@
 -- `castanhiu_serve` meets its contract, by a walk of its MIR.
--- The record's borrow is opened and the record copied out; the request, which is Copy, is had twice; the response's borrow is given to `serve` for good, at its own lifetime, share and name; the statuses that `serve` returns are stored into the record, and the borrow is closed at the record with them; the answer goes on to `told`.
--- All that the proof knows of `serve` and of `told` is that each meets its contract: of the definitions of `specs/` it names none but `withStatuses` and `answerTold`, and of the record's fields it says only that the statuses are the second.
+-- The record's borrow is opened and the record copied out; the request, which is Copy, is had twice; the response's borrow is given to `serve` for good, at its own lifetime, share and name; the statuses that `serve` returns are stored into the record, and the borrow is closed at the record with them; the reply goes on to `told`.
+-- All that the proof knows of `serve` and of `told` is that each meets its contract: of the definitions of `specs/` it names none but `withStatuses` and `replyTold`, and of the record's fields it says only that the statuses are the second.
 -- Assumes nothing.
 use mathlib.Core.Path.{ap, _∙_, refl}
 use Prim.Native.Nat.{ℕ}
@@ -41,26 +41,26 @@ use denote.Triple.Walked.{says, Stays, stay-ref, stay-none, stay-none-slice, gav
 use denote.Exit.{yes}
 use denote.Signature.{plain}
 use Rattle.server.specs.Trailer.{withStatuses}
-use Rattle.server.specs.Told.{answerTold}
+use Rattle.server.specs.Told.{replyTold}
 use Rattle.server.specs.declared.trailer.TrailerRecord.{TrailerRecord}
 use Rattle.server.specs.declared.serving.Served.{Served}
-use Rattle.server.specs.declared.serving.Answer.{Answer}
+use Rattle.server.specs.declared.serving.Reply.{Reply}
 use Rattle.server.proofs.trailer.TrailerRecord as T
 use Rattle.server.proofs.trailer.TrailerRecord.Laws as T′
 use Rattle.server.proofs.serving.Served as S
 use Rattle.server.proofs.serving.Served.Laws as S′
-use Rattle.server.proofs.serving.Answer as N
-use Rattle.server.proofs.serving.Answer.Laws as N′
-use Rattle.server.proofs.serving.AnswerTold as D
-use Rattle.server.proofs.serving.AnswerTold.Laws as D′
+use Rattle.server.proofs.serving.Reply as N
+use Rattle.server.proofs.serving.Reply.Laws as N′
+use Rattle.server.proofs.serving.ReplyTold as D
+use Rattle.server.proofs.serving.ReplyTold.Laws as D′
 use Rattle.server.proofs.serve as serve
 use Rattle.server.proofs.serve.Symbol as serve-def
 use Rattle.server.proofs.serve.Symbol.{name as #server·serve}
 use Rattle.server.proofs.serve.Met as serve-thm
-use Rattle.server.proofs.serving.Answer.told as told
-use Rattle.server.proofs.serving.Answer.told.Symbol as told-def
-use Rattle.server.proofs.serving.Answer.told.Symbol.{name as #server·told}
-use Rattle.server.proofs.serving.Answer.told.Met as told-thm
+use Rattle.server.proofs.serving.Reply.told as told
+use Rattle.server.proofs.serving.Reply.told.Symbol as told-def
+use Rattle.server.proofs.serving.Reply.told.Symbol.{name as #server·told}
+use Rattle.server.proofs.serving.Reply.told.Met as told-thm
 use Rattle.castanhiu.proofs.Lent.{mach, typed, opened, closed, asks, answered}
 use Rattle.castanhiu.proofs.trailer.castanhiu_serve.Key.{name as #castanhiu·serve}
 use Rattle.castanhiu.proofs.trailer.castanhiu_serve as host
@@ -110,7 +110,7 @@ module _ {M : Type 1} (𝓤 : URA M) (H : Heap 𝓤) (A : Atoms 𝓤) (at-mem : 
       abbrev to : Serve .Ghost
       to = (((κ₁, (κ₂, tt)), (q₁, (q₂, tt)), tt, (h, (x, (f, (y, tt)))), (mach h ∷ [], rest)), tt)
 
-      abbrev to-told : Answer → Told .Ghost
+      abbrev to-told : Reply → Told .Ghost
       to-told n = ((tt, tt, tt, (n, tt), (EL.vals N.the-type N′.the-laws n, tt)), tt)
 
       -- the record with the statuses that `serve` returns, and what closing the borrow at it asks: of the statuses, what `serve` returns shows it, and of the other fields the record as it was
@@ -153,15 +153,15 @@ module _ {M : Type 1} (𝓤 : URA M) (H : Heap 𝓤) (A : Atoms 𝓤) (at-mem : 
           move ! (3 ∷ 4 ∷ 5 ∷ 6 ∷ []) $ closed ! tt (after r) (made r w was is) b o $
           -- `told`
           -- [obs; the borrow; its token; the last response; true; the other tokens; _8; …]
-          nothing ! $ owned ! N.the-row (Is N.the-row) (EL.makes N.the-type N′.the-plain 𝓤 H A) (r .answer) _ (parts .1 .0) $ fjoin ! $ nothing ! $ use2 W (raw (Told .pre (to-told (r .answer)))) (asks 𝓤 _) $
-          calls-at ! (fmOf 𝓤 H (W .laws) 𝓣) Told known-told (to-told (r .answer)) (and-then ! (load ! (from ! (fld ! refl (stop !))) (look-in ! 13 (sub ! 1 refl (whole !)))) (no-more !)) (λ v.
-          answered ! tt told.ended (told.clauses 𝓤 H A at-mem run) (to-told (r .answer)) v (λ d _ are. heard ! _ (λ n.
+          nothing ! $ owned ! N.the-row (Is N.the-row) (EL.makes N.the-type N′.the-plain 𝓤 H A) (r .reply) _ (parts .1 .0) $ fjoin ! $ nothing ! $ use2 W (raw (Told .pre (to-told (r .reply)))) (asks 𝓤 _) $
+          calls-at ! (fmOf 𝓤 H (W .laws) 𝓣) Told known-told (to-told (r .reply)) (and-then ! (load ! (from ! (fld ! refl (stop !))) (look-in ! 13 (sub ! 1 refl (whole !)))) (no-more !)) (λ v.
+          answered ! tt told.ended (told.clauses 𝓤 H A at-mem run) (to-told (r .reply)) v (λ d _ are. heard ! _ (λ n.
           -- [what is told; nothing that lasts; no token; obs; the borrow; its token; the last response; true; the other tokens; _8; …; the request; true]
           land ! (from ! (stop !)) (init ! 25 refl (LL.lawful D.the-type D′.the-laws 𝓤 H A W .typed d _ are .0)) $
           returns ! (look ! 25 refl) $ forget ! 9 refl $ forget ! 11 refl $ forget ! 13 refl $ forget ! 15 refl $ forget ! 17 refl $ forget ! 19 refl $ forget ! 21 refl $ forget ! 23 refl $ forget ! 25 refl $
           move ! (25 ∷ 26 ∷ []) $ free1 ! $ move ! (23 ∷ 24 ∷ []) $ free1 ! $ move ! (21 ∷ 22 ∷ []) $ free1 ! $ move ! (19 ∷ 20 ∷ []) $ free1 ! $ move ! (17 ∷ 18 ∷ []) $ free1 ! $ move ! (15 ∷ 16 ∷ []) $ free1 ! $ move ! (13 ∷ 14 ∷ []) $ free1 ! $ move ! (11 ∷ 12 ∷ []) $ free1 ! $ move ! (9 ∷ 10 ∷ []) $ free1 ! $ free0 ! $
           keep ! (5 ∷ 8 ∷ 3 ∷ 4 ∷ 9 ∷ 6 ∷ 0 ∷ []) $ suffices ! _ (ends-at 𝓤 H A host.ended stayed (host.clauses 𝓤 H A at-mem run) W at v d (after r, (tt, (tt, (ws .1 .1 .1 .0, tt)))) (tt, (tt, (tt, (l, tt))))) $
-          says ! (e .0, (n ∙ ap answerTold (e .1 .0), e .1 .1)) $ join ! $ frame ! $ feqI ! (List Val) (vptr b o ∷ []) (vptr b o ∷ []) refl $ fjoin3 ! $
+          says ! (e .0, (n ∙ ap replyTold (e .1 .0), e .1 .1)) $ join ! $ frame ! $ feqI ! (List Val) (vptr b o ∷ []) (vptr b o ∷ []) refl $ fjoin3 ! $
           nothing ! $ move ! (3 ∷ 0 ∷ []) $ fjoin ! $ owned ! bool (Is bool) (bool-makes 𝓤 H A W) f _ refl $ fjoin ! $ move ! (2 ∷ 0 ∷ []) $ fjoin ! $ move ! (1 ∷ 0 ∷ []) $ fjoin ! $ done !)))))))))))))))))
 
     goes : AllGo 𝓤 H A W 3 (host.signature .params) (host.ended .kept) stayed
@@ -179,4 +179,4 @@ castanhiu-serve-spec 𝓤 H 𝓜 𝓖 𝓡 =
     (tables 𝓤 H 𝓜 𝓡 code.env .C) (tables 𝓤 H 𝓜 𝓡 code.env .Λ) #castanhiu·serve code.function (code.unfolded 𝓤 H 𝓜 𝓡)
     (meets 𝓤 H (𝓖 .A) (𝓜 .mem) (𝓡 .run) (givenOf 𝓤 H 𝓜 𝓖) (tablesOf 𝓤 H 𝓜 (tables 𝓤 H 𝓜 𝓡 code.env))
     (cited 𝓤 H (Serve 𝓤 H (𝓖 .A) (𝓜 .mem) (𝓡 .run)) 𝓜 𝓡 code.env #server·serve serve-def.routine code.calls-server·serve (serve-thm.met 𝓤 H 𝓜 𝓖 𝓡))
-    (cited 𝓤 H (Told 𝓤 H (𝓖 .A) (𝓜 .mem) (𝓡 .run)) 𝓜 𝓡 code.env #server·told told-def.routine code.calls-server·serving·Answer·told (told-thm.met 𝓤 H 𝓜 𝓖 𝓡)))
+    (cited 𝓤 H (Told 𝓤 H (𝓖 .A) (𝓜 .mem) (𝓡 .run)) 𝓜 𝓡 code.env #server·told told-def.routine code.calls-server·serving·Reply·told (told-thm.met 𝓤 H 𝓜 𝓖 𝓡)))

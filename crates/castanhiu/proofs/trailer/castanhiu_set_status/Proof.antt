@@ -1,6 +1,6 @@
 -- `castanhiu_set_status` meets its contract, by a walk of its MIR.
 -- The record's borrow is opened and the record copied out; code and status are numbers, and go to `set_status`; the statuses that it returns are stored into the record, and the borrow is closed at the record with them; the answer goes on to `told`.
--- All that the proof knows of `set_status` and of `told` is that each meets its contract: of the definitions of `specs/` it names none but `withStatuses` and `statusTold`, and of the record's fields it says only that the statuses are the second.
+-- All that the proof knows of `set_status` and of `told` is that each meets its contract: of the definitions of `specs/` it names none but `withStatuses` and `answerTold`, and of the record's fields it says only that the statuses are the second.
 -- Assumes nothing.
 use mathlib.Core.Path.{ap, _∙_, refl}
 use Prim.Native.Nat.{ℕ}
@@ -36,27 +36,27 @@ use denote.Triple.Table.{entered, cited}
 use denote.Triple.Walked.{says, Stays, stay-ref, stay-none, walkOf, AllGo, goes-ref, goes-none, ends-at, walked, walk-meets}
 use denote.Exit.{yes}
 use denote.Signature.{plain}
-use Rattle.server.specs.Told.{statusTold}
+use Rattle.identifiers.specs.Answers.{answerTold}
 use Rattle.server.specs.Trailer.{withStatuses}
 use Rattle.server.specs.declared.trailer.TrailerRecord.{TrailerRecord}
 use Rattle.server.specs.declared.status.StatusSet.{StatusSet}
-use Rattle.server.specs.declared.status.StatusAnswer.{StatusAnswer}
+use Rattle.identifiers.specs.declared.answer.Answer.{Answer}
 use Rattle.server.proofs.trailer.TrailerRecord as T
 use Rattle.server.proofs.trailer.TrailerRecord.Laws as T′
 use Rattle.server.proofs.status.StatusSet as S
 use Rattle.server.proofs.status.StatusSet.Laws as S′
-use Rattle.server.proofs.status.StatusAnswer as N
-use Rattle.server.proofs.status.StatusAnswer.Laws as N′
-use Rattle.server.proofs.status.StatusAnswerTold as D
-use Rattle.server.proofs.status.StatusAnswerTold.Laws as D′
+use Rattle.identifiers.proofs.answer.Answer as N
+use Rattle.identifiers.proofs.answer.Answer.Laws as N′
+use Rattle.identifiers.proofs.answer.AnswerTold as D
+use Rattle.identifiers.proofs.answer.AnswerTold.Laws as D′
 use Rattle.server.proofs.set_status as set-status
 use Rattle.server.proofs.set_status.Symbol as set-status-def
 use Rattle.server.proofs.set_status.Symbol.{name as #server·set-status}
 use Rattle.server.proofs.set_status.Met as set-status-thm
-use Rattle.server.proofs.status.StatusAnswer.told as told
-use Rattle.server.proofs.status.StatusAnswer.told.Symbol as told-def
-use Rattle.server.proofs.status.StatusAnswer.told.Symbol.{name as #server·told}
-use Rattle.server.proofs.status.StatusAnswer.told.Met as told-thm
+use Rattle.identifiers.proofs.answer.Answer.told as told
+use Rattle.identifiers.proofs.answer.Answer.told.Symbol as told-def
+use Rattle.identifiers.proofs.answer.Answer.told.Symbol.{name as #identifiers·told}
+use Rattle.identifiers.proofs.answer.Answer.told.Met as told-thm
 use Rattle.castanhiu.proofs.Lent.{mach, typed, opened, closed, asks, answered}
 use Rattle.castanhiu.proofs.trailer.castanhiu_set_status.Key.{name as #castanhiu·set-status}
 use Rattle.castanhiu.proofs.trailer.castanhiu_set_status as host
@@ -79,7 +79,7 @@ module _ {M : Type 1} (𝓤 : URA M) (H : Heap 𝓤) (A : Atoms 𝓤) (at-mem : 
   abbrev Host : Contract 𝓤
   Host = walkOf 𝓤 H A host.ended stayed (host.clauses 𝓤 H A at-mem run)
 
-  module _ (W : Given 𝓤 H A) (𝓣 : Tables 𝓤 H) (known : Triple 𝓤 (𝓣 .C #server·set-status) SetStatus) (known-told : Triple 𝓤 (𝓣 .C #server·told) Told) where
+  module _ (W : Given 𝓤 H A) (𝓣 : Tables 𝓤 H) (known : Triple 𝓤 (𝓣 .C #server·set-status) SetStatus) (known-told : Triple 𝓤 (𝓣 .C #identifiers·told) Told) where
     -- the function's code, run
     abbrev Run : Fun 𝓤
     Run = WpFn 𝓤 H (𝓣 .C) (𝓣 .Λ) code.function
@@ -100,7 +100,7 @@ module _ {M : Type 1} (𝓤 : URA M) (H : Heap 𝓤) (A : Atoms 𝓤) (at-mem : 
       abbrev to : SetStatus .Ghost
       to = ((tt, tt, tt, (h, (x, (y, tt))), (mach h ∷ [], rest)), tt)
 
-      abbrev to-told : StatusAnswer → Told .Ghost
+      abbrev to-told : Answer → Told .Ghost
       to-told n = ((tt, tt, tt, (n, tt), (EL.vals N.the-type N′.the-laws n, tt)), tt)
 
       -- the record with the statuses that `set_status` returns, and what closing the borrow at it asks
@@ -144,7 +144,7 @@ module _ {M : Type 1} (𝓤 : URA M) (H : Heap 𝓤) (A : Atoms 𝓤) (at-mem : 
           returns ! (look ! 17 refl) $ forget ! 7 refl $ forget ! 9 refl $ forget ! 11 refl $ forget ! 13 refl $ forget ! 15 refl $ forget ! 17 refl $
           move ! (17 ∷ 18 ∷ []) $ free1 ! $ move ! (15 ∷ 16 ∷ []) $ free1 ! $ move ! (13 ∷ 14 ∷ []) $ free1 ! $ move ! (11 ∷ 12 ∷ []) $ free1 ! $ move ! (9 ∷ 10 ∷ []) $ free1 ! $ move ! (7 ∷ 8 ∷ []) $ free1 ! $ free0 ! $
           keep ! (5 ∷ 6 ∷ 3 ∷ 4 ∷ 0 ∷ []) $ suffices ! _ (ends-at 𝓤 H A host.ended stayed (host.clauses 𝓤 H A at-mem run) W at v d (after r, (tt, (tt, tt))) (tt, (tt, (tt, tt)))) $
-          says ! (e .0, n ∙ ap statusTold (e .1)) $ join ! $ frame ! $ feqI ! (List Val) (vptr b o ∷ []) (vptr b o ∷ []) refl $ fjoin3 ! $
+          says ! (e .0, n ∙ ap answerTold (e .1)) $ join ! $ frame ! $ feqI ! (List Val) (vptr b o ∷ []) (vptr b o ∷ []) refl $ fjoin3 ! $
           nothing ! $ owned ! u8 (Is u8) (uint-makes 𝓤 H A W w8) y _ is-y $ fjoin ! $ owned ! u32 (Is u32) (uint-makes 𝓤 H A W w32) x _ is-x $ fjoin ! $ move ! (1 ∷ 0 ∷ []) $ fjoin ! $ done !)))))))))))))
 
     goes : AllGo 𝓤 H A W 1 (host.signature .params) (host.ended .kept) stayed
@@ -162,4 +162,4 @@ castanhiu-set-status-spec 𝓤 H 𝓜 𝓖 𝓡 =
     (tables 𝓤 H 𝓜 𝓡 code.env .C) (tables 𝓤 H 𝓜 𝓡 code.env .Λ) #castanhiu·set-status code.function (code.unfolded 𝓤 H 𝓜 𝓡)
     (meets 𝓤 H (𝓖 .A) (𝓜 .mem) (𝓡 .run) (givenOf 𝓤 H 𝓜 𝓖) (tablesOf 𝓤 H 𝓜 (tables 𝓤 H 𝓜 𝓡 code.env))
     (cited 𝓤 H (SetStatus 𝓤 H (𝓖 .A) (𝓜 .mem) (𝓡 .run)) 𝓜 𝓡 code.env #server·set-status set-status-def.routine code.calls-server·set-status (set-status-thm.met 𝓤 H 𝓜 𝓖 𝓡))
-    (cited 𝓤 H (Told 𝓤 H (𝓖 .A) (𝓜 .mem) (𝓡 .run)) 𝓜 𝓡 code.env #server·told told-def.routine code.calls-server·status·StatusAnswer·told (told-thm.met 𝓤 H 𝓜 𝓖 𝓡)))
+    (cited 𝓤 H (Told 𝓤 H (𝓖 .A) (𝓜 .mem) (𝓡 .run)) 𝓜 𝓡 code.env #identifiers·told told-def.routine code.calls-identifiers·answer·Answer·told (told-thm.met 𝓤 H 𝓜 𝓖 𝓡)))

@@ -14,14 +14,14 @@ returns : tie.Need-returns
 unfolding parameterOf
 returns c = taken _ (lt-ltb _ _ (c .if1 .taken)) refl
 
-by-high-byte-requires : tie.Need-by-high-byte-requires
-by-high-byte-requires c κs = subst Sound (sym (c .row .ensures)) (kinds-sound (c .before .before .args .kind))
+measure-requires : tie.Need-measure-requires
+measure-requires c κs = subst Sound (sym (c .of-number .ensures)) (kinds-sound (c .before .before .args .kind))
 
 returns-2 : tie.Need-returns-2
 unfolding parameterOf
 returns-2 c =
     let entry = c .before .before .before in
-    passed _ (le-ltb _ _ (c .before .before .if1 .left)) ((c .by-high-byte .ensures) ∙ ap (λ (k : Kind). measuredAs k (entry .args .raw)) (c .before .row .ensures))
+    passed _ (le-ltb _ _ (c .before .before .if1 .left)) ((c .measure .ensures) ∙ ap (λ (k : Kind). measuredAs k (entry .args .raw)) (c .before .of-number .ensures))
 
 pub read-parameter-spec : {M : Type 1} → statement M
-read-parameter-spec = tie.close (tie.spec returns (λ c κs. search needs) by-high-byte-requires returns-2)
+read-parameter-spec = tie.close (tie.spec returns (λ c κs. search needs) measure-requires returns-2)

@@ -21,7 +21,7 @@ returns-4 c =
     let at-of-frame = c .before .before .before .before in
     let at-position = at-of-frame .before .before in
     let at-own-position = at-position .before .before in
-    (c .passed-by .ensures) ∙ sym (route-read _ _ _ _ _ _ _ (sym (at-own-position .own-position .ensures) ∙ (at-position .position .given .1)) (sym (at-of-frame .of-frame .ensures) ∙ (c .before .before .answer .given .1)))
+    (c .routed-by .ensures) ∙ sym (route-read _ _ _ _ _ _ _ (sym (at-own-position .own-position .ensures) ∙ (at-position .position .given .1)) (sym (at-of-frame .of-frame .ensures) ∙ (c .before .before .answer .given .1)))
 
 pub route-spec : {M : Type 1} → statement M
 route-spec =

@@ -9,10 +9,10 @@ use Rattle.request_examples.proofs.masks.kept.Tie as tie
 returns : tie.Need-returns
 returns c =
     let test = c .before .before .before in
-    (taken _ (sym (test .before .mask-kept .ensures) ∙ test .if1 .taken) refl, omega arith)
+    (taken _ (sym (test .before .sound-mask .ensures) ∙ test .if1 .taken) refl, omega arith)
 
 returns-2 : tie.Need-returns-2
-returns-2 c = (passed _ (sym (c .before .mask-kept .ensures) ∙ c .if1 .left) refl, omega arith)
+returns-2 c = (passed _ (sym (c .before .sound-mask .ensures) ∙ c .if1 .left) refl, omega arith)
 
 pub kept-spec : {M : Type 1} → statement M
 kept-spec =

@@ -12,11 +12,11 @@ returns c = taken _ (sym (left-holds _ (eq-eqb _ _ (c .if1 .taken)))) refl
 
 returns-2 : tie.Need-returns-2
 unfolding heldAmong
-returns-2 c = taken _ (sym (right-holds _ (rw (c .before .place .ensures) at (lt-ltb _ _ (c .if2 .taken))))) refl
+returns-2 c = taken _ (sym (right-holds _ (rw (c .before .place-among .ensures) at (lt-ltb _ _ (c .if2 .taken))))) refl
 
 returns-3 : tie.Need-returns-3
 unfolding heldAmong
-returns-3 c = passed _ (sym (right-decides (ne-eqb _ _ (c .before .before .if1 .left)) (sym (rw (c .before .place .ensures) at (le-ltb _ _ (c .if2 .left)))))) refl
+returns-3 c = passed _ (sym (right-decides (ne-eqb _ _ (c .before .before .if1 .left)) (sym (rw (c .before .place-among .ensures) at (le-ltb _ _ (c .if2 .left)))))) refl
 
 pub content-of-14-spec : {M : Type 1} → statement M
 content-of-14-spec = tie.close (tie.spec

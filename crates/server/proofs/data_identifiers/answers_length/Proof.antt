@@ -8,7 +8,7 @@ use borrow.Author.Needs.{needs}
 use lib.ListN.{getD, length}
 use Rattle.identifiers.specs.Below.{listBelow}
 use Rattle.identifiers.proofs.LawsBelow.{list-none, length-more}
-use Rattle.server.specs.Places.{placeOf}
+use Rattle.server.specs.Places.{placeAmong}
 use Rattle.server.specs.Trailer.{dataAlone}
 use Rattle.server.specs.DataIdentifiers.{askedCount, askedAt, answerTo, answersOf}
 use Rattle.server.specs.declared.trailer.TrailerRecord.{TrailerRecord}
@@ -34,23 +34,23 @@ module _ (c : tie.Start Inv-loop μ-loop) where
   abbrev answer : ℕ → List ℕ
   answer j = answerTo t (askedAt request j)
 
-module _ (c : tie.After-place Inv-loop μ-loop) where
+module _ (c : tie.After-place-among Inv-loop μ-loop) where
   abbrev entry : tie.Start Inv-loop μ-loop
   entry = c .before .before .before .before .before
 
   abbrev j : ℕ
   j = c .before .before .before .loop .j
 
-  stands : placeOf (t entry .identifiers) (t entry .held) (askedAt (request entry) j) ≡ c .place .result
-  stands = sym (c .place .ensures ∙ ap (placeOf (t entry .identifiers) (t entry .held)) (c .before .asked .ensures))
+  stands : placeAmong (t entry .identifiers) (t entry .held) (askedAt (request entry) j) ≡ c .place-among .result
+  stands = sym (c .place-among .ensures ∙ ap (placeAmong (t entry .identifiers) (t entry .held)) (c .before .asked .ensures))
 
   more : length (listBelow (answer entry) (j + 1)) ≡ length (listBelow (answer entry) j) + length (answer entry j)
   more = length-more (answer entry) j
 
-  hit : c .place .result < t entry .held → length (answer entry j) ≡ 2 + getD (t entry .lengths) (c .place .result) 0
+  hit : c .place-among .result < t entry .held → length (answer entry j) ≡ 2 + getD (t entry .lengths) (c .place-among .result) 0
   hit = length-answer (t entry) _ _ stands
 
-  miss : t entry .held ≤ c .place .result → length (answer entry j) ≡ 0
+  miss : t entry .held ≤ c .place-among .result → length (answer entry j) ≡ 0
   miss l = ap length (answer-miss (t entry) _ (rw stands l))
 
 -- ---- the needs

@@ -7,15 +7,13 @@ use borrow.Author.Tests.{ne-eqb}
 use borrow.Author.Needs.{needs}
 use lib.Dec.{eqb}
 use lib.ListN.{getD}
-use Rattle.identifiers.specs.Below.{listBelow}
+use Rattle.identifiers.specs.Below.{listBelow, firstBelow}
 use Rattle.identifiers.specs.Bytes.{Puts}
-use Rattle.identifiers.proofs.LawsBelow.{list-none}
+use Rattle.identifiers.proofs.LawsBelow.{list-none, first-none, first-miss}
 use Rattle.identifiers.proofs.LawsBytes.{puts-none, keeps-length, turn, turn-none}
-use Rattle.server.specs.Places.{firstBelow}
 use Rattle.server.specs.Trailer.{dataAlone}
 use Rattle.server.specs.DataIdentifiers.{askedCount, askedAt, dataOf, identifierAndData, answerTo, answersOf}
 use Rattle.server.specs.declared.trailer.TrailerRecord.{TrailerRecord}
-use Rattle.server.proofs.LawsPlaces.{first-none, first-miss}
 use Rattle.server.proofs.LawsTrailer.{length-within}
 use Rattle.server.proofs.LawsDataIdentifiers.{answer-fits, found, found-none}
 use Rattle.server.proofs.data_identifiers.put_answers.Statement.{statement}

@@ -10,12 +10,12 @@ use Rattle.identifiers.proofs.LawsBytes.{keeps-length}
 use Rattle.server.specs.Trailer.{recordOf}
 use Rattle.server.specs.Requests.{serviceOf, requestOf}
 use Rattle.server.specs.Silence.{silentOn}
-use Rattle.server.specs.Server.{negativeOf, negativeBytes, Outcome, answered}
+use Rattle.server.specs.Server.{negativeOf, negativeBytes, Effect, answered}
 use Rattle.server.specs.declared.trailer.TrailerRecord.{TrailerRecord}
 use Rattle.server.specs.declared.requests.Request.{Request}
-use Rattle.server.specs.declared.serving.Answer.the-variants.{Sent}
+use Rattle.server.specs.declared.serving.Reply.the-variants.{Sent}
 use Rattle.server.proofs.LawsTrailer.{Sound, sound-has}
-use Rattle.server.proofs.LawsServer.{right-lengths, same-outcome, answered-silent, answered-negative, answered-positive}
+use Rattle.server.proofs.LawsServer.{right-lengths, same-effect, answered-silent, answered-negative, answered-positive}
 use Rattle.server.proofs.serving.answered.Statement.{statement}
 use Rattle.server.proofs.serving.answered.Tie as tie
 
@@ -41,7 +41,7 @@ module _ (k : tie.After-read-request) where
   abbrev asked : Request
   asked = k .read-request .result
 
-  as-read : {o : Outcome} → answered (t entry) asked (entry .args .request .now) (entry .args .functional) (entry .args .response .now) ≡ o
+  as-read : {o : Effect} → answered (t entry) asked (entry .args .request .now) (entry .args .functional) (entry .args .response .now) ≡ o
       → o ≡ answered (t entry) (requestOf (entry .args .request .now)) (entry .args .request .now) (entry .args .functional) (entry .args .response .now)
   as-read e = sym e ∙ ap (λ (r : Request). answered (t entry) r (entry .args .request .now) (entry .args .functional) (entry .args .response .now)) (k .read-request .ensures)
 
@@ -74,7 +74,7 @@ returns : tie.Need-returns
 returns c =
     let l = c .unchanged .ensures in
     let k = c .before .before .before in
-    same-outcome (ap (with (entry (k .before))) (l .0)) (l .1) refl
+    same-effect (ap (with (entry (k .before))) (l .0)) (l .1) refl
     ∙ as-read (k .before) (answered-silent _ _ _ _ _ (rw (c .before .before .silent-on .ensures, code k) at (c .before .if1 .taken)))
 
 first-byte : tie.Need-shared-slice-read-put-negative
@@ -93,7 +93,7 @@ returns-2 c =
     let put = c .before .before .before .put-negative .ensures in
     let two = c .before .before .before .before .before .before in
     let one = two .before in
-    same-outcome (ap (with (entry (read one))) (l .0)) (l .1 ∙ ap Sent (put .ends)) (rw (code (known one)) at (put .holds))
+    same-effect (ap (with (entry (read one))) (l .0)) (l .1 ∙ ap Sent (put .ends)) (rw (code (known one)) at (put .holds))
     ∙ as-read (read one) (answered-negative _ _ _ _ _ (spoken one) (λ z. two .if2 .taken (code (known one) ∙ z)))
 
 put-positive-requires : tie.Need-put-positive-requires
@@ -113,7 +113,7 @@ returns-3 c =
     let put = c .before .before .before .put-positive .ensures in
     let two = c .before .before .before .before .before in
     let one = two .before in
-    same-outcome (c .statuses-after .ensures _ _ _ _) (ap Sent (put .ends ∙ zero-add _)) (put .holds)
+    same-effect (c .statuses-after .ensures _ _ _ _) (ap Sent (put .ends ∙ zero-add _)) (put .holds)
     ∙ as-read (read one) (answered-positive _ _ _ _ _ (spoken one) (sym (code (known one)) ∙ two .if2 .left))
 
 pub answered-spec : {M : Type 1} → statement M

@@ -1,14 +1,14 @@
--- `serve` meets its contract: what `respond` leaves behind.
+-- `serve` meets its contract: what `serve_parts` leaves behind.
 use mathlib.Core.Path.{ap}
 use borrow.Author.Needs.{needs}
-use Rattle.server.specs.Server.{Outcome}
+use Rattle.server.specs.Server.{Effect}
 use Rattle.server.proofs.serving.serve.Statement.{statement}
 use Rattle.server.proofs.serving.serve.Tie as tie
 
 returns : tie.Need-returns
 returns c =
-    let done = c .before .before .respond .ensures in
-    (ap (λ (o : Outcome). o .after) done, (ap (λ (o : Outcome). o .answer) done, ap (λ (o : Outcome). o .response) done))
+    let done = c .before .before .serve-parts .ensures in
+    (ap (λ (o : Effect). o .after) done, (ap (λ (o : Effect). o .reply) done, ap (λ (o : Effect). o .response) done))
 
 pub serve-spec : {M : Type 1} → statement M
 serve-spec = tie.close (tie.spec

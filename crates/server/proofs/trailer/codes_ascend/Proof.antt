@@ -12,10 +12,10 @@ use Rattle.server.proofs.trailer.codes_ascend.Statement.{statement}
 use Rattle.server.proofs.trailer.codes_ascend.Tie as tie
 
 abbrev Inv-loop : tie.InvT-loop
-Inv-loop codes count kept₀ i₀ kept i = (i ≤ count - 1) × (kept ≡ allBelow (λ (m : ℕ). ltb (getD codes m 0) (getD codes (m + 1) 0)) i)
+Inv-loop codes count sound₀ i₀ sound i = (i ≤ count - 1) × (sound ≡ allBelow (λ (m : ℕ). ltb (getD codes m 0) (getD codes (m + 1) 0)) i)
 
 abbrev μ-loop : tie.MeasureT-loop
-μ-loop codes count kept₀ i₀ kept i = count - i
+μ-loop codes count sound₀ i₀ sound i = count - i
 
 loop-holds : tie.Need-loop-holds Inv-loop μ-loop
 loop-holds c = (search needs, sym (all-none _))

@@ -12,10 +12,10 @@ use Rattle.server.proofs.trailer.identifiers_ascend.Statement.{statemen
 use Rattle.server.proofs.trailer.identifiers_ascend.Tie as tie
 
 abbrev Inv-loop : tie.InvT-loop
-Inv-loop identifiers held kept₀ k₀ kept k = (k ≤ held - 1) × (kept ≡ allBelow (λ (m : ℕ). ltb (getD identifiers m 0) (getD identifiers (m + 1) 0)) k)
+Inv-loop identifiers held sound₀ k₀ sound k = (k ≤ held - 1) × (sound ≡ allBelow (λ (m : ℕ). ltb (getD identifiers m 0) (getD identifiers (m + 1) 0)) k)
 
 abbrev μ-loop : tie.MeasureT-loop
-μ-loop identifiers held kept₀ k₀ kept k = held - k
+μ-loop identifiers held sound₀ k₀ sound k = held - k
 
 loop-holds : tie.Need-loop-holds Inv-loop μ-loop
 loop-holds c = (search needs, sym (all-none _))

@@ -14,10 +14,10 @@ use Rattle.server.proofs.trailer.lengths_within.Statement.{statement}
 use Rattle.server.proofs.trailer.lengths_within.Tie as tie
 
 abbrev Inv-loop : tie.InvT-loop
-Inv-loop lengths held kept₀ k₀ kept k = (k ≤ held) × (kept ≡ allBelow (λ (m : ℕ). lengthWithin (getD lengths m 0)) k)
+Inv-loop lengths held sound₀ k₀ sound k = (k ≤ held) × (sound ≡ allBelow (λ (m : ℕ). lengthWithin (getD lengths m 0)) k)
 
 abbrev μ-loop : tie.MeasureT-loop
-μ-loop lengths held kept₀ k₀ kept k = held - k
+μ-loop lengths held sound₀ k₀ sound k = held - k
 
 loop-holds : tie.Need-loop-holds Inv-loop μ-loop
 loop-holds c = (search needs, sym (all-none _))

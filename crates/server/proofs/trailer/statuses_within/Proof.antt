@@ -11,10 +11,10 @@ use Rattle.server.proofs.trailer.statuses_within.Statement.{statement}
 use Rattle.server.proofs.trailer.statuses_within.Tie as tie
 
 abbrev Inv-loop : tie.InvT-loop
-Inv-loop statuses availability count kept₀ i₀ kept i = (i ≤ count) × (kept ≡ allBelow (λ (m : ℕ). statusWithin availability (getD statuses m 0)) i)
+Inv-loop statuses availability count sound₀ i₀ sound i = (i ≤ count) × (sound ≡ allBelow (λ (m : ℕ). statusWithin availability (getD statuses m 0)) i)
 
 abbrev μ-loop : tie.MeasureT-loop
-μ-loop statuses availability count kept₀ i₀ kept i = count - i
+μ-loop statuses availability count sound₀ i₀ sound i = count - i
 
 loop-holds : tie.Need-loop-holds Inv-loop μ-loop
 loop-holds c = (search needs, sym (all-none _))

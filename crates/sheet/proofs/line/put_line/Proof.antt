@@ -18,7 +18,19 @@ put-requires-5 c κs =
     let at8 = at7 .before .before in
     let at9 = at8 .before .before .before in
     let at10 = at9 .before .before .before in
-    omega (arith, (at10 .pre), (at9 .put-decimal .ensures .0), (at8 .put .ensures .ends), (at7 .put-hex .ensures .0), (at6 .put2 .ensures .ends), (at5 .put-hex2 .ensures .0), (at4 .put3 .ensures .ends), (at3 .put-decimal2 .ensures .0), (at2 .put4 .ensures .ends), (at1 .put-basis .ensures .0))
+    omega (
+      arith,
+      at10 .pre,
+      at9 .put-decimal .ensures .0,
+      at8 .put .ensures .ends,
+      at7 .put-hex .ensures .0,
+      at6 .put2 .ensures .ends,
+      at5 .put-hex2 .ensures .0,
+      at4 .put3 .ensures .ends,
+      at3 .put-decimal2 .ensures .0,
+      at2 .put4 .ensures .ends,
+      at1 .put-basis .ensures .0,
+    )
 
 returns : tie.Need-returns
 unfolding lineOf
@@ -33,8 +45,24 @@ returns c =
     let at8 = at7 .before .before .before in
     let at9 = at8 .before .before in
     let at10 = at9 .before .before .before in
-    let at11 = at10 .before .before .before in
-    (omega (arith, (at11 .pre), (at10 .put-decimal .ensures .0), (at9 .put .ensures .ends), (at8 .put-hex .ensures .0), (at7 .put2 .ensures .ends), (at6 .put-hex2 .ensures .0), (at5 .put3 .ensures .ends), (at4 .put-decimal2 .ensures .0), (at3 .put4 .ensures .ends), (at1 .put-basis .ensures .0), (c .put5 .ensures .ends)), (at10 .put-decimal .ensures .1) ▸ (at9 .put .ensures) ▸ (at8 .put-hex .ensures .1) ▸ (at7 .put2 .ensures) ▸ (at6 .put-hex2 .ensures .1) ▸ (at5 .put3 .ensures) ▸ (at4 .put-decimal2 .ensures .1) ▸ (at3 .put4 .ensures) ▸ (rw (at2 .basis-of .ensures) at (at1 .put-basis .ensures .1)) ▸ (c .put5 .ensures))
+    let at11 = at10 .before .before .before in (
+      omega (
+        arith,
+        at11 .pre,
+        at10 .put-decimal .ensures .0,
+        at9 .put .ensures .ends,
+        at8 .put-hex .ensures .0,
+        at7 .put2 .ensures .ends,
+        at6 .put-hex2 .ensures .0,
+        at5 .put3 .ensures .ends,
+        at4 .put-decimal2 .ensures .0,
+        at3 .put4 .ensures .ends,
+        at1 .put-basis .ensures .0,
+        c .put5 .ensures .ends,
+      ),
+      at10 .put-decimal .ensures .1 ▸ at9 .put .ensures ▸ at8 .put-hex .ensures .1 ▸ at7 .put2 .ensures ▸ at6 .put-hex2 .ensures .1 ▸ at5 .put3 .ensures
+          ▸ at4 .put-decimal2 .ensures .1 ▸ at3 .put4 .ensures ▸ (rw (at2 .basis-of .ensures) at (at1 .put-basis .ensures .1)) ▸ c .put5 .ensures,
+    )
 
 pub put-line-spec : {M : Type 1} → statement M
 put-line-spec =

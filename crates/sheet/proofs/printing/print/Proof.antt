@@ -5,7 +5,7 @@ use lib.ListN.{length}
 use borrow.Author.Needs.{needs}
 use native.Mathlib.Omega.{arith}
 use Rattle.identifiers.proofs.LawsBytes.{_▸_}
-use Rattle.sheet.proofs.LawsJudge.{accepted-short}
+use Rattle.sheet.proofs.LawsSheets.{accepted-short}
 use Rattle.sheet.proofs.LawsPrinted.{printed-accepted, printed-refused}
 use Rattle.sheet.specs.Readings.{readingsIn}
 use Rattle.sheet.proofs.printing.print.Statement.{statement}
@@ -17,7 +17,7 @@ put-lines-requires c κs =
     let at2 = at1 .before .before .before in
     let at3 = at2 .before .before in
     let at4 = at3 .before .before in
-    let h : length ((at4 .args .input) .now) ≤ 65535 = accepted-short _ (sym (at3 .judge .ensures) ∙ (at2 .enum-told .given .1)) in (omega arith, omega (arith, (at1 .put .ensures .ends)))
+    let h : length ((at4 .args .input) .now) ≤ 65535 = accepted-short _ (sym (at3 .read-sheet .ensures) ∙ (at2 .enum-told .given .1)) in (omega arith, omega (arith, (at1 .put .ensures .ends)))
 
 returns : tie.Need-returns
 unfolding readingsIn
@@ -25,13 +25,13 @@ returns c =
     let at1 = c .before .before in
     let at2 = at1 .before .before .before in
     let at3 = at2 .before .before in
-    rw (printed-accepted _ (sym (at3 .judge .ensures) ∙ (at2 .enum-told .given .1))) ((at1 .put .ensures) ▸ (c .put-lines .ensures))
+    rw (printed-accepted _ (sym (at3 .read-sheet .ensures) ∙ (at2 .enum-told .given .1))) ((at1 .put .ensures) ▸ (c .put-lines .ensures))
 
 returns-2 : tie.Need-returns-2
 returns-2 c =
     let at1 = c .before .before .before in
     let at2 = at1 .before .before in
-    rw (printed-refused _ _ _ (sym (at2 .judge .ensures) ∙ (at1 .why .given .1))) (c .put-refusal .ensures)
+    rw (printed-refused _ _ _ (sym (at2 .read-sheet .ensures) ∙ (at1 .why .given .1))) (c .put-refusal .ensures)
 
 pub print-spec : {M : Type 1} → statement M
 print-spec =

@@ -3,16 +3,16 @@ use mathlib.Core.Path.{refl}
 use borrow.Author.Needs.{needs}
 use borrow.Author.Tests.{lt-ltb, le-ltb}
 use Rattle.identifiers.proofs.LawsChoice.{taken, passed}
-use Rattle.sheet.specs.Text.{digit}
+use Rattle.sheet.specs.Text.{hexDigit}
 use Rattle.sheet.proofs.text.hex_digit.Statement.{statement}
 use Rattle.sheet.proofs.text.hex_digit.Tie as tie
 
 returns : tie.Need-returns
-unfolding digit
+unfolding hexDigit
 returns c = taken _ (lt-ltb _ _ (c .if1 .taken)) refl
 
 returns-2 : tie.Need-returns-2
-unfolding digit
+unfolding hexDigit
 returns-2 c = passed _ (le-ltb _ _ (c .if1 .left)) refl
 
 pub hex-digit-spec : {M : Type 1} → statement M
