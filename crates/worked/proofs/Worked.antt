@@ -155,7 +155,21 @@ pub record Worked : Type 0 where
   pub short-bytes : response (0x3E ∷ []) ≡ 0x7F ∷ 0x3E ∷ 0x13 ∷ replicate 252 0xAA
 
 pub worked : Worked
-unfolding round pick both either allBelow countBelow listBelow written formula reservedBit fieldsOf frameRead readOf writtenAs targetOf fraction kinds.kindOf kinds.highByte kinds.wholeOf addresses addressOf positions vehicleAmong vehicleOf positionAt trailerAt successorOf nextOf takenAs takenAfter bare valued inRange measuredBy measuredAs parameterOf soundReception receptionAt withReception soundNode freshNode singleOf firstLength firstOf kindOf unitIs diagnostic destinationOf addressedFrom addressedOf judgedRead judgedOf gapOf regionAt kept shut opened doneOf leftOf takenStep followed stepOf stepBy ownOf receivedBy receivedAt receivedOf writtenBy bufferAt bufferAfter shownOf framesOf noFrame physicalTo framedAs framed headed pieceOf between cutOf size offered handed handedAt requests maskKept places.firstBelow places.placeOf places.heldAmong ascending codesBelow statusWithin statusesWithin lengthWithin lengthsWithin soundRecord matches listed countListed twoBytes codeAndStatus reported reportOf groupHeld inGroup storedBelow clearedOf askedCount askedAt dataOf identifierAndData answerTo answersOf serviceOf subFunctionOf silencing maskOf groupOf sized formOf14 formOf19 formOf22 formOf3E requestBy requestOf silenced quietCode silentOn contentOf14 contentOf19 contentOf22 negativeOf negativeBytes positiveOf changedBy wrongLengths answeredTo outcomeOf
+unfolding round
+    pick both either allBelow countBelow listBelow written formula reservedBit fieldsOf frameRead readOf writtenAs targetOf
+    fraction kinds.kindOf kinds.highByte kinds.wholeOf
+    addresses addressOf positions vehicleAmong vehicleOf positionAt trailerAt successorOf nextOf takenAs takenAfter
+    bare valued inRange measuredBy measuredAs parameterOf
+    soundReception receptionAt withReception soundNode freshNode
+    singleOf firstLength firstOf kindOf unitIs diagnostic destinationOf addressedFrom addressedOf judgedRead judgedOf
+    gapOf regionAt kept shut opened doneOf leftOf takenStep followed stepOf stepBy ownOf receivedBy receivedAt receivedOf writtenBy bufferAt bufferAfter
+    shownOf framesOf noFrame physicalTo framedAs framed headed pieceOf between cutOf
+    size offered handed handedAt requests
+    maskKept places.firstBelow places.placeOf places.heldAmong ascending codesBelow statusWithin statusesWithin lengthWithin lengthsWithin soundRecord
+    matches listed countListed twoBytes codeAndStatus reported reportOf groupHeld inGroup storedBelow clearedOf
+    askedCount askedAt dataOf identifierAndData answerTo answersOf
+    serviceOf subFunctionOf silencing maskOf groupOf sized formOf14 formOf19 formOf22 formOf3E requestBy requestOf silenced quietCode silentOn
+    contentOf14 contentOf19 contentOf22 negativeOf negativeBytes positiveOf changedBy wrongLengths answeredTo outcomeOf
 worked =
     record {
       identifier = refl;
