@@ -1,6 +1,9 @@
 /*
- * Self test of the independent model of document 01: every worked number, both sides of the
- * boundaries in the rules, and random runs that check what must stay as it was.
+ * Document 01 put to the independent model, and to the archive: every worked number, both sides of
+ * the boundaries in the rules, and random runs that check what must stay as it was. The checks
+ * stand over the model's names; linked with archive.c, these are the archive's.
+ *
+ *     selftest NAME      whose functions they are, for the line that it prints
  */
 #include "model.h"
 
@@ -36,6 +39,16 @@ static uint32_t below(uint32_t limit)
 }
 
 static const uint8_t vehicle[6] = {0xEB, 0xC9, 0xC1, 0xB9, 0xB1, 0xA9};
+
+static uint8_t place_of(uint8_t address)
+{
+    for (uint8_t p = 0; p < 6; p++) {
+        if (vehicle[p] == address) {
+            return p;
+        }
+    }
+    return MODEL_NO_POSITION;
+}
 
 /* ---- comparing ----------------------------------------------------------------------------- */
 
@@ -181,12 +194,7 @@ static void test_vehicle(void)
 {
     unsigned found = 0;
     for (unsigned a = 0; a < 256; a++) {
-        uint8_t expected = MODEL_NO_POSITION;
-        for (uint8_t p = 0; p < 6; p++) {
-            if (vehicle[p] == a) {
-                expected = p;
-            }
-        }
+        const uint8_t expected = place_of((uint8_t)a);
         CHECK(model_position_of((uint8_t)a) == expected);
         const model_next next = model_next_position((uint8_t)a);
         if (expected < 5) {
@@ -398,7 +406,7 @@ static void test_node(void)
             before.receptions[5] = (model_reception){.open = 1, .length = 7, .frames = 0, .stamp = 0};
             model_node after = before;
             const uint8_t refusal = model_take_address(&after, (uint8_t)sa);
-            const uint8_t from = model_position_of((uint8_t)sa);
+            const uint8_t from = place_of((uint8_t)sa);
             if (from >= 5) {
                 CHECK(refusal == 15 && same_node(&before, &after));
             } else if (from + 1u == own) {
@@ -484,7 +492,7 @@ static void test_receiver_worked(void)
 
 static void test_receiver_order(void)
 {
-    const uint8_t single[8] = {5, 1, 0x3E, 0, 0, 0, 0, 0};
+    const uint8_t single[9] = {5, 1, 0x3E};
     model_node node = model_start(5);
     const model_node start = node;
 
@@ -870,7 +878,7 @@ static void test_trains(void)
             outcomes[i] = r;
             CHECK(model_node_keeps_rules(&node));
             CHECK(node.own == before.own && node.unit == before.unit);
-            const uint8_t from = model_position_of((uint8_t)frames[i].number);
+            const uint8_t from = place_of((uint8_t)frames[i].number);
             /* what must stay */
             for (uint32_t p = 0; p < 6; p++) {
                 if (p != from) {
@@ -1004,7 +1012,7 @@ static void test_trains(void)
         const uint8_t own = node.own < 6 ? node.own : 0;
         test_frame f = some_frame(&(model_node){.own = own, .unit = node.unit}, any());
         if (below(4)) {
-            const uint32_t p = model_position_of((uint8_t)f.number);
+            const uint32_t p = place_of((uint8_t)f.number);
             if (p < 6) {
                 f.stamp = node.receptions[p].stamp + below(200);
                 if (below(2)) {
@@ -1347,7 +1355,8 @@ static void test_server_worked(void)
 
     /* 17 */
     const model_record kept = r;
-    uint8_t long_request[256] = {0x3E, 0x00};
+    uint8_t long_request[256] = {0x3E, 0x00}, long_response[256] = {0};
+    const uint8_t none[256] = {0};
     memcpy(response_before, response, sizeof response);
     a = model_serve(&r, long_request, 0, 0, response, 255);
     CHECK(a.refusal == 17 && a.sent == 0);
@@ -1357,8 +1366,8 @@ static void test_server_worked(void)
     CHECK(a.refusal == 17 && a.sent == 0);
     a = model_serve(&r, long_request, 2, 0, response, 254);
     CHECK(a.refusal == 17 && a.sent == 0);
-    a = model_serve(&r, long_request, 2, 0, response, 256);
-    CHECK(a.refusal == 17 && a.sent == 0);
+    a = model_serve(&r, long_request, 2, 0, long_response, 256);
+    CHECK(a.refusal == 17 && a.sent == 0 && memcmp(long_response, none, 256) == 0);
     CHECK(memcmp(response, response_before, sizeof response) == 0 && same_record(&r, &kept));
     a = ask(&r, 0, long_request, 255);
     CHECK(a.refusal == 0 && a.sent == 3 && response[2] == 0x13);
@@ -1725,8 +1734,12 @@ static void test_sheet(void)
     free(expected);
 }
 
-int main(void)
+int main(int argc, char **argv)
 {
+    if (argc != 2) {
+        fprintf(stderr, "selftest NAME\n");
+        return 2;
+    }
     test_identifier();
     test_vehicle();
     test_route();
@@ -1741,6 +1754,6 @@ int main(void)
     test_server_worked();
     test_server_random();
     test_sheet();
-    printf("selftest: %lu checks, all passed\n", checks);
+    printf("selftest of the %s: %lu checks passed\n", argv[1], checks);
     return 0;
 }

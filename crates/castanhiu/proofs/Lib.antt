@@ -1,4 +1,3 @@
 -- What belongs to no one function.
-pub mod Worked
-pub mod Demand3Host
+pub mod LawsNumbers
 pub mod Lent

@@ -1,5 +1,6 @@
 -- `castanhiu_serve` meets its contract, by a walk of its MIR.
--- The record's borrow is opened and the record copied out; the request, which is Copy, is had twice; the response's borrow is given to `serve` for good, at its own lifetime, share and name; the statuses that `serve` returns are stored into the record, and the borrow is closed at the record with them; the reply goes on to `told`.
+-- The record's borrow is opened and the record copied out; the request, which is Copy, is had twice; the response's borrow is given to `serve` for good, at its own lifetime, share and name;
+-- the statuses that `serve` returns are stored into the record, and the borrow is closed at the record with them; the reply goes on to `told`.
 -- All that the proof knows of `serve` and of `told` is that each meets its contract: of the definitions of `specs/` it names none but `withStatuses` and `replyTold`, and of the record's fields it says only that the statuses are the second.
 -- Assumes nothing.
 use mathlib.Core.Path.{ap, _∙_, refl}
@@ -129,7 +130,8 @@ module _ {M : Type 1} (𝓤 : URA M) (H : Heap 𝓤) (A : Atoms 𝓤) (at-mem : 
       walk : Room u8 (length (x .now)) → Room u8 (length (y .now)) → ent 𝓤 (Host .pre at) (Run (Host .args at) (Host .post at))
       walk room-x room-y =
           qed W (((‵ (flft κ q) ⊛ raw (alive 𝓤 H A serve.signature (κ₁, (κ₂, tt)) (q₁, (q₂, tt)))) ⊛ ‵ (owns (MutRef (named 0) κ T.the-row ∷ ShrSlice (named 1) κ₁ u8 ∷ bool ∷ MutSlice (named 2) κ₂ u8 ∷ []) a (vptr b o ∷ [], rest))) ∷ ‵ ftrue ∷ []) ∵
-          split ! $ split ! $ move ! (2 ∷ []) $ fsplit ! $ fsplit3 ! $ drop ! $ move ! (2 ∷ []) $ fsplit ! $ use1 W (‵ Req ⊛ ‵ Req) (shr-slice-copy 𝓤 H A W (named 1) κ₁ u8 .twice x (sx ∷ [])) $ split ! $ move ! (0 ∷ 2 ∷ []) $ fjoin ! $ move ! (2 ∷ 3 ∷ 4 ∷ 1 ∷ 5 ∷ 0 ∷ []) $
+          split ! $ split ! $ move ! (2 ∷ []) $ fsplit ! $ fsplit3 ! $ drop ! $ move ! (2 ∷ []) $ fsplit ! $
+          use1 W (‵ Req ⊛ ‵ Req) (shr-slice-copy 𝓤 H A W (named 1) κ₁ u8 .twice x (sx ∷ [])) $ split ! $ move ! (0 ∷ 2 ∷ []) $ fjoin ! $ move ! (2 ∷ 3 ∷ 4 ∷ 1 ∷ 5 ∷ 0 ∷ []) $
           -- [obs; the borrow; its token; the request; the other tokens; what request, functional and response own; true]
           enter ! (𝓣 .C) (𝓣 .Λ) code.function _ _ $
           alloc1 ! (λ l₀. alloc1 ! (λ l₁. alloc1 ! (λ l₂. alloc1 ! (λ l₃. alloc1 ! (λ l₄. alloc1 ! (λ l₅. alloc1 ! (λ l₆. alloc1 ! (λ l₇. alloc1 ! (λ l₈. alloc0 ! $ params1 ! $
@@ -142,7 +144,8 @@ module _ {M : Type 1} (𝓤 : URA M) (H : Heap 𝓤) (A : Atoms 𝓤) (at-mem : 
           assigns ! (agg ! (and-then ! (load ! (from ! (stop !)) (look ! 7 refl)) (and-then ! (load ! (from ! (fld ! refl (stop !))) (look-in ! 13 (sub ! 1 refl (whole !)))) (no-more !)))) (from ! (stop !)) (init ! 5 refl (tt, (tt, (record { fits = room-y .0 }, tt)))) $
           -- `serve`
           move ! (1 ∷ 25 ∷ []) $ fjoin ! $ move ! (24 ∷ 0 ∷ []) $ use2 W (raw (Serve .pre to)) (asks 𝓤 _) $
-          calls-at ! (fmOf 𝓤 H (W .laws) 𝓣) Serve known to (and-then ! (load ! (from ! (stop !)) (look ! 9 refl)) (and-then ! (load ! (from ! (stop !)) (look ! 17 refl)) (and-then ! (load ! (from ! (stop !)) (look ! 15 refl)) (and-then ! (load ! (from ! (stop !)) (look ! 5 refl)) (no-more !))))) (λ w.
+          calls-at ! (fmOf 𝓤 H (W .laws) 𝓣) Serve known to
+          (and-then ! (load ! (from ! (stop !)) (look ! 9 refl)) (and-then ! (load ! (from ! (stop !)) (look ! 17 refl)) (and-then ! (load ! (from ! (stop !)) (look ! 15 refl)) (and-then ! (load ! (from ! (stop !)) (look ! 5 refl)) (no-more !))))) (λ w.
           answered ! tt serve.ended (serve.clauses 𝓤 H A at-mem run) to w (λ r ws is. heard ! _ (λ e. drop ! $
           fsplit ! $ drop ! $ fsplit ! $ drop ! $ fsplit ! $ drop ! $ fsplit ! $ fsplit ! $ move ! (1 ∷ []) $ feqL ! (λ l.
           -- [the last response; true; the other tokens; the record's cell; the open borrow; obs; auth; _8; …]
@@ -159,7 +162,8 @@ module _ {M : Type 1} (𝓤 : URA M) (H : Heap 𝓤) (A : Atoms 𝓤) (at-mem : 
           -- [what is told; nothing that lasts; no token; obs; the borrow; its token; the last response; true; the other tokens; _8; …; the request; true]
           land ! (from ! (stop !)) (init ! 25 refl (LL.lawful D.the-type D′.the-laws 𝓤 H A W .typed d _ are .0)) $
           returns ! (look ! 25 refl) $ forget ! 9 refl $ forget ! 11 refl $ forget ! 13 refl $ forget ! 15 refl $ forget ! 17 refl $ forget ! 19 refl $ forget ! 21 refl $ forget ! 23 refl $ forget ! 25 refl $
-          move ! (25 ∷ 26 ∷ []) $ free1 ! $ move ! (23 ∷ 24 ∷ []) $ free1 ! $ move ! (21 ∷ 22 ∷ []) $ free1 ! $ move ! (19 ∷ 20 ∷ []) $ free1 ! $ move ! (17 ∷ 18 ∷ []) $ free1 ! $ move ! (15 ∷ 16 ∷ []) $ free1 ! $ move ! (13 ∷ 14 ∷ []) $ free1 ! $ move ! (11 ∷ 12 ∷ []) $ free1 ! $ move ! (9 ∷ 10 ∷ []) $ free1 ! $ free0 ! $
+          move ! (25 ∷ 26 ∷ []) $ free1 ! $ move ! (23 ∷ 24 ∷ []) $ free1 ! $ move ! (21 ∷ 22 ∷ []) $ free1 ! $ move ! (19 ∷ 20 ∷ []) $ free1 ! $ move ! (17 ∷ 18 ∷ []) $ free1 ! $
+          move ! (15 ∷ 16 ∷ []) $ free1 ! $ move ! (13 ∷ 14 ∷ []) $ free1 ! $ move ! (11 ∷ 12 ∷ []) $ free1 ! $ move ! (9 ∷ 10 ∷ []) $ free1 ! $ free0 ! $
           keep ! (5 ∷ 8 ∷ 3 ∷ 4 ∷ 9 ∷ 6 ∷ 0 ∷ []) $ suffices ! _ (ends-at 𝓤 H A host.ended stayed (host.clauses 𝓤 H A at-mem run) W at v d (after r, (tt, (tt, (ws .1 .1 .1 .0, tt)))) (tt, (tt, (tt, (l, tt))))) $
           says ! (e .0, (n ∙ ap replyTold (e .1 .0), e .1 .1)) $ join ! $ frame ! $ feqI ! (List Val) (vptr b o ∷ []) (vptr b o ∷ []) refl $ fjoin3 ! $
           nothing ! $ move ! (3 ∷ 0 ∷ []) $ fjoin ! $ owned ! bool (Is bool) (bool-makes 𝓤 H A W) f _ refl $ fjoin ! $ move ! (2 ∷ 0 ∷ []) $ fjoin ! $ move ! (1 ∷ 0 ∷ []) $ fjoin ! $ done !)))))))))))))))))

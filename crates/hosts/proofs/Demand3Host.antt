@@ -8,14 +8,16 @@ use lib.Dec.{eqb}
 use Rattle.identifiers.proofs.LawsChoice.{pick-true, pick-false}
 use Rattle.readings.specs.declared.position.Position.{Position}
 use Rattle.receiver.specs.declared.outcome.Outcome.{Outcome}
+use Rattle.receiver.specs.declared.outcome.OutcomeTold.{OutcomeTold}
+use Rattle.receiver.specs.Frames.{Frame}
 use Rattle.receiver.specs.Outcomes.{outcomeTold}
 use Rattle.receiver.specs.Shown.{toldMessage}
 use Rattle.trains.specs.Sequences.{Line, start, _▹_, size, Request, ReadAs}
 use Rattle.trains.specs.Runs.{Held, answer, next, offered, handed, requests}
 use Rattle.trains.proofs.LawsRuns.{offered-none, offered-more, requests-none, requests-more, HandsOut, hands-nothing, hands-one}
 use Rattle.trains.proofs.Demand3.{Fresh, requests-are-the-reading}
-use Rattle.castanhiu.specs.Numbers.{receivedTold}
-use Rattle.castanhiu.specs.Hosts.{hosted, Got, gotFrom, got, inNumbers}
+use Rattle.castanhiu.proofs.LawsNumbers.{told-node, told-outcome}
+use Rattle.hosts.specs.Hosts.{hosted, Got, gotFrom, got, inNumbers}
 
 -- ---- the statement, of a node x that starts fresh, held with any buffer of 1,536 bytes
 -- "The requests it hands out are exactly the single frames and the complete trains standing in that sequence. Each comes once, at its last frame, with the bytes its frames carry":
@@ -44,16 +46,21 @@ module _ (at : ℕ) (o : Outcome) (bytes buffer : List ℕ) where
   got-is false e = got-one (hands-one at bytes buffer o (eqb-false _ _ e)) e
 
 module _ (x : Held) where
+  hosted-more : (h : Line) (f : Frame) → hosted x (h ▹ f) ≡ next (hosted x h) f
+  unfolding hosted
+  hosted-more h f = rw (told-node (answer (hosted x h) f))
+
   hosted-is : (h : Line) → hosted x h ≡ offered x h
-  unfolding hosted receivedTold
+  unfolding hosted
   hosted-is start = sym (offered-none x)
-  hosted-is (h ▹ f) = ap (λ (y : Held). next y f) (hosted-is h) ∙ sym (offered-more x h f)
+  hosted-is (h ▹ f) = hosted-more h f ∙ ap (λ (y : Held). next y f) (hosted-is h) ∙ sym (offered-more x h f)
 
   got-requests : (h : Line) → got x h ≡ inNumbers (requests x h)
-  unfolding got hosted receivedTold inNumbers
+  unfolding got hosted inNumbers
   got-requests start = ap inNumbers (sym (requests-none x))
   got-requests (h ▹ f) =
-      ap₂ (λ (y : Held) (rest : List Got). gotFrom (size h) (outcomeTold (answer y f .outcome)) (f .bytes) (next y f .buffer) ++ rest) (hosted-is h) (got-requests h)
+      ap (λ (t : OutcomeTold). gotFrom (size h) t (f .bytes) (next (hosted x h) f .buffer) ++ got x h) (told-outcome (answer (hosted x h) f))
+      ∙ ap₂ (λ (y : Held) (rest : List Got). gotFrom (size h) (outcomeTold (answer y f .outcome)) (f .bytes) (next y f .buffer) ++ rest) (hosted-is h) (got-requests h)
       ∙ ap (λ (l : List Got). l ++ inNumbers (requests x h)) (got-is (size h) (answer (offered x h) f .outcome) (f .bytes) (next (offered x h) f .buffer) _ refl)
       ∙ sym (in-numbers-append (handed (size h) (answer (offered x h) f .outcome) (f .bytes) (next (offered x h) f .buffer)) (requests x h))
       ∙ ap inNumbers (sym (requests-more x h f))

@@ -157,7 +157,22 @@ pub record Worked : Type 0 where
   pub short-bytes : response (0x3E ∷ []) ≡ 0x7F ∷ 0x3E ∷ 0x13 ∷ replicate 252 0xAA
 
 pub worked : Worked
-unfolding round pick both either allBelow countBelow listBelow written formula reservedBit fieldsOf framePassing readPassing frameRead readOf writtenAs targetOf fraction kinds.kindOf kinds.highByte kinds.wholeOf addresses addressOf positions positionAmong positionOf positionAt trailerAt successorOf nextOf takenAs takenAfter withoutValue valued inRange measuredBy measuredAs parameterOf soundReception receptionAt withReception soundNode freshNode singleOf firstLength firstOf carriedOf unitIs diagnostic destinationOf addressedFrom addressedBy addressedRead addressingOf judgedFrom judgedOf gapOf regionAt leaving closing opened doneOf leftOf takenStep followed stepOf stepBy ownOf judgedAt judgedBy movedBy movedOf storedIn receivedOf writtenBy bufferAfter shownOf frameCount noFrame physicalTo framedAs framed headed pieceOf between cutOf size offered handed handedAt requests soundMask firstBelow places.placeAmong places.heldAmong ascending codesBelow statusWithin statusesWithin lengthWithin lengthsWithin soundRecord matches listed countListed twoBytes codeAndStatus reported reportOf groupHeld inGroup storedBelow clearedOf askedCount askedAt dataOf identifierAndData answerTo answersOf serviceOf subFunctionOf silencing maskOf groupOf sized formOf14 formOf19 formOf22 formOf3E requestBy requestOf silenced quietCode silentOn contentOf14 contentOf19 contentOf22 negativeOf negativeBytes positiveOf changedBy wrongLengths answeredTo servedOf
+unfolding round
+    pick both either allBelow countBelow listBelow written formula reservedBit fieldsOf framePassing readPassing frameRead readOf writtenAs targetOf
+    fraction kinds.kindOf kinds.highByte kinds.wholeOf
+    addresses addressOf positions positionAmong positionOf positionAt trailerAt successorOf nextOf takenAs takenAfter
+    withoutValue valued inRange measuredBy measuredAs parameterOf
+    soundReception receptionAt withReception soundNode freshNode
+    diagnostic destinationOf unitIs addressedFrom addressedBy addressedRead addressingOf singleOf firstLength firstOf carriedOf judgedFrom judgedOf
+    gapOf regionAt leaving closing opened doneOf leftOf takenStep followed stepOf writtenBy
+    ownOf judgedAt judgedBy stepBy movedBy movedOf storedIn receivedOf bufferAfter
+    shownOf frameCount noFrame physicalTo framedAs framed headed pieceOf between cutOf
+    size offered handed handedAt requests
+    soundMask firstBelow places.placeAmong places.heldAmong ascending codesBelow statusWithin statusesWithin lengthWithin lengthsWithin soundRecord
+    matches listed countListed twoBytes codeAndStatus reported reportOf groupHeld inGroup storedBelow clearedOf
+    askedCount askedAt dataOf identifierAndData answerTo answersOf
+    serviceOf subFunctionOf silencing maskOf groupOf sized formOf14 formOf19 formOf22 formOf3E requestBy requestOf silenced quietCode silentOn
+    contentOf14 contentOf19 contentOf22 negativeOf negativeBytes positiveOf changedBy wrongLengths answeredTo servedOf
 worked =
     record {
       identifier = refl;

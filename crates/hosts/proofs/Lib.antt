@@ -1,0 +1,2 @@
+-- The theorem, which belongs to no function.
+pub mod Demand3Host

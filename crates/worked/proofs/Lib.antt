@@ -1,0 +1,2 @@
+-- The list, which belongs to no function.
+pub mod Worked
