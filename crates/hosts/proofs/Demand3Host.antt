@@ -15,7 +15,8 @@ use Rattle.receiver.specs.Shown.{toldMessage}
 use Rattle.trains.specs.Sequences.{Line, start, _▹_, size, Request, ReadAs}
 use Rattle.trains.specs.Runs.{Held, answer, next, offered, handed, requests}
 use Rattle.trains.proofs.LawsRuns.{offered-none, offered-more, requests-none, requests-more, HandsOut, hands-nothing, hands-one}
-use Rattle.trains.proofs.Demand3.{Fresh, requests-are-the-reading}
+use Rattle.trains.specs.Demands.{Fresh}
+use Rattle.trains.proofs.Demand3.{requests-are-the-reading}
 use Rattle.castanhiu.proofs.LawsNumbers.{told-node, told-outcome}
 use Rattle.hosts.specs.Hosts.{hosted, Got, gotFrom, got, inNumbers}
 

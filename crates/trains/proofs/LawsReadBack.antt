@@ -16,12 +16,7 @@ use Rattle.receiver.specs.Cuts.{frameCount}
 use Rattle.receiver.proofs.LawsKinds.{single-is, first-is, consecutive-is}
 use Rattle.receiver.proofs.LawsOnWire.{identifierTo, single-wire, first-wire, consecutive-wire, cut-addressed}
 use Rattle.trains.specs.Sequences.{seen}
-use Rattle.trains.specs.Terms.{cutFrame}
-
--- a frame that the receiver takes for this, with these data bytes
-pub record Carries (own : Position) (unit : ℕ) (f : Frame) (j : Judged) (bytes : List ℕ) : Type 0 where
-  pub kind : seen own unit f ≡ j
-  pub data-bytes : f .bytes ≡ bytes
+use Rattle.trains.specs.Terms.{Carries, cutFrame}
 
 module _ (own : Position) (unit : ℕ) (p : Position) (m : List ℕ) (other : placeOf p ≢ placeOf own) where
   carries : (k t : ℕ) (rest : List ℕ) (j : Judged) → cutFrame own unit p m k t ≡ record { identifier = identifierTo p own; bytes = unit ∷ rest; stamp = t }

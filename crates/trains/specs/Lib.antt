@@ -2,3 +2,4 @@
 pub mod Sequences
 pub mod Runs
 pub mod Terms
+pub mod Demands

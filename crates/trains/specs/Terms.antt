@@ -12,6 +12,7 @@ use Rattle.identifiers.specs.declared.refusal.Refusal.{Refusal}
 use Rattle.readings.specs.Positions.{placeOf, addressOf}
 use Rattle.readings.specs.declared.position.Position.{Position}
 use Rattle.readings.specs.declared.position.Vehicle.the-variants.{At}
+use Rattle.receiver.specs.declared.frame.Judged.{Judged}
 use Rattle.receiver.specs.declared.frame.Judged.the-variants.{Refused, Single, First, OverLong, Consecutive}
 use Rattle.receiver.specs.Frames.{Frame}
 use Rattle.receiver.specs.Steps.{gapOf}
@@ -124,3 +125,8 @@ module _ (own : Position) (unit : ℕ) (p : Position) (m : List ℕ) where
 -- stamps of n frames, each at most 150 ms after the one before
 abbrev pub InTime : (ℕ → ℕ) → ℕ → Type 0
 InTime stamps n = (k : ℕ) → suc k < n → gapOf (stamps (suc k)) (stamps k) ≤ 150
+
+-- ---- what is cut: a frame that the receiver takes for this, with these data bytes
+pub record Carries (own : Position) (unit : ℕ) (f : Frame) (j : Judged) (bytes : List ℕ) : Type 0 where
+  pub kind : seen own unit f ≡ j
+  pub data-bytes : f .bytes ≡ bytes
