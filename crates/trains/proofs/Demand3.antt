@@ -27,7 +27,8 @@ use Rattle.trains.proofs.LawsCarried.{whole, request-bounds}
 use Rattle.trains.proofs.LawsOwn.{elsewhere-by-source, others-by-address, alone}
 use Rattle.trains.proofs.LawsReadBack.{cut-single, cut-first, cut-consecutive}
 use Rattle.trains.proofs.LawsSent.{sent-stands, sent-whole, read-after}
-use Rattle.trains.specs.Demands.{Fresh, requestAt, MakersAreFresh, Exactness, NothingElse, AtMostOne, RequestsAreTheReading, RequestLength, RoundTrip, StaysAfterwards, OneReading, SomeReading, OneStart, OneEnd, CompleteLength, OwnFramesAlone, PhysicalFramesAlone, NotItsOwn, KindsOnTheWire, WhatIsElsewhere, FourFates, WhatFollows, ReadBack, Sendable, CutTakenApart, CutterRefuses}
+use Rattle.trains.specs.Demands.{Fresh, requestAt, MakersAreFresh, Exactness, NothingElse, AtMostOne, RequestsAreTheReading, RequestLength, RoundTrip, StaysAfterwards, OneReading, SomeReading, OneStart}
+use Rattle.trains.specs.Demands.{OneEnd, CompleteLength, OwnFramesAlone, PhysicalFramesAlone, NotItsOwn, KindsOnTheWire, WhatIsElsewhere, FourFates, WhatFollows, ReadBack, Sendable, CutTakenApart, CutterRefuses}
 
 pub makers-are-fresh : MakersAreFresh
 makers-are-fresh own unit h = (made-fresh own unit h, start-fresh unit)
