@@ -56,7 +56,7 @@ fn offer(node: Node, buffer: &mut [u8], identifier: u32, data: &[u8], stamp: u32
     next
 }
 
-// A name, then frames one after the other to trailer 1 with unit 5: data, an identifier, a stamp, and the line that is said.
+// A name, then frames one after the other to trailer 1 with unit 5: data (F and S are those two frames), an identifier, a stamp, and a line.
 pub fn sequence(case: &[u8]) {
     let count = marks(case, b'/');
     let mut buffer = [0u8; 1536];
@@ -67,8 +67,8 @@ pub fn sequence(case: &[u8]) {
         let frame = part(case, b'/', k);
         say(part(case, b'/', 0));
         say_case(part(frame, b';', 3), frame);
-        let identifier = number(frame, 1, 16);
-        let stamp = number(frame, 2, 16);
+        let identifier = value(frame, 1, 16);
+        let stamp = value(frame, 2, 16);
         let next = match letter(frame) {
             b'F' => offer(node, &mut buffer, identifier, &FIRST, stamp),
             b'S' => offer(node, &mut buffer, identifier, &SECOND, stamp),
@@ -82,7 +82,7 @@ pub fn sequence(case: &[u8]) {
 pub fn offered(case: &[u8]) {
     let mut buffer = [0u8; 1536];
     let data = part(case, b';', 1);
-    offer(start(5), &mut buffer, number(case, 2, 16), data, 0);
+    offer(start(5), &mut buffer, value(case, 2, 16), data, 0);
 }
 
 // The frame 3E 00 to unit 5.
@@ -93,11 +93,11 @@ fn presence(node: Node, identifier: u32) {
 
 // A channel, its identifier, and its trailer: the identifier is read apart, then a frame under it is offered to the trailer.
 pub fn channel(line: &[u8], case: &[u8]) {
-    crate::document_003::read(number(case, 1, 16));
+    crate::document_003::read(value(case, 1, 16));
     say_case(line, case);
     say(b"offered to its trailer: ");
     let made = fresh(byte(case, 2, 10), 5);
-    presence(made.node, number(case, 1, 16));
+    presence(made.node, value(case, 1, 16));
 }
 
 pub fn node(case: &[u8]) {
@@ -114,13 +114,13 @@ pub fn under_way(case: &[u8]) {
     let mut node = start(5);
     node.receptions[5].length = byte(case, 0, 10);
     node.receptions[5].taken = byte(case, 1, 10);
-    node.receptions[5].last = number(case, 2, 10);
+    node.receptions[5].last = value(case, 2, 10);
     presence(node, FUNCTIONAL);
 }
 
 pub fn given(case: &[u8]) {
     let mut buffer = [0u8; 1537];
-    let length = (number(case, 0, 10) % 1538) as usize;
+    let length = (value(case, 0, 10) % 1538) as usize;
     offer(start(5), &mut buffer[..length], FUNCTIONAL, &PRESENCE, 0);
 }
 
@@ -175,7 +175,7 @@ pub fn message(case: &[u8]) {
         message[i] = (i % 251) as u8;
         i += 1;
     }
-    read_back(front(&message, number(case, 0, 10) as usize));
+    read_back(front(&message, value(case, 0, 10) as usize));
 }
 
 fn frame(told: FrameCutTold) {
@@ -190,10 +190,10 @@ fn frame(told: FrameCutTold) {
 // The number of a frame, the length of its message of bytes AA, and the positions from and to.
 pub fn piece(case: &[u8]) {
     let message = [0xAAu8; 256];
-    let text = front(&message, number(case, 1, 10) as usize);
+    let text = front(&message, value(case, 1, 10) as usize);
     let from = byte(case, 2, 10);
     let to = byte(case, 3, 10);
-    frame(cut(text, number(case, 0, 10) as usize, from, to, 5).told());
+    frame(cut(text, value(case, 0, 10) as usize, from, to, 5).told());
 }
 
 // Continue or overflow, and the positions from and to.

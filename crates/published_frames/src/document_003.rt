@@ -83,7 +83,7 @@ pub fn route(case: &[u8]) {
         _ => Side::Predecessor,
     };
     let successor = part(case, b';', 3).len() != 0;
-    let identifier = number(case, 1, 16);
+    let identifier = value(case, 1, 16);
     let data = part(case, b';', 4);
     let told = readings::route(side, byte(case, 2, 10), successor, identifier, data).told();
     if refused(told.refusal) {
@@ -99,19 +99,19 @@ pub fn route(case: &[u8]) {
 
 // A raw number, its kind, the whole number that it stands for, and what that is divided by to be the value.
 pub fn kind(case: &[u8]) {
-    let told = read_parameter(byte(case, 1, 10), number(case, 0, 10)).told();
+    let told = read_parameter(byte(case, 1, 10), value(case, 0, 10)).told();
     if refused(told.refusal) {
         return;
     }
     let words = b"value|reserved|error|not available|beyond range|";
     say(part(words, b'|', told.outcome as usize));
     let given = part(case, b';', 2);
-    let above = (number(part(given, b'-', 0), 0, 10) % 65536) as u16;
-    let below = (number(part(given, b'-', 1), 0, 10) % 65536) as u16;
-    let divisor = (number(case, 3, 10) % 65536) as u16;
+    let above = (value(part(given, b'-', 0), 0, 10) % 65536) as u16;
+    let below = (value(part(given, b'-', 1), 0, 10) % 65536) as u16;
+    let divisor = (value(case, 3, 10) % 65536) as u16;
     let whole = above as i32 - below as i32;
-    let value = (above as f32 - below as f32) / divisor as f32;
-    if (told.value == value) & (told.whole == whole) {
+    let quotient = (above as f32 - below as f32) / divisor as f32;
+    if (told.value == quotient) & (told.whole == whole) {
         say(b", both numbers as given\n");
     } else {
         say(b", another number\n");

@@ -6,7 +6,7 @@ mod tables;
 use published_lines::*;
 
 // The first letter of the row's word says what is asked.
-fn case(row: &[u8], case: &[u8]) {
+fn run(row: &[u8], case: &[u8]) {
     let line = part(row, b';', 1);
     say_case(line, case);
     match letter(row) {
@@ -17,7 +17,7 @@ fn case(row: &[u8], case: &[u8]) {
         b'f' => document_003::format(case),
         b'g' => document_000::given(case),
         b'h' => document_000::hears(case),
-        b'i' => document_003::read(number(case, 1, 16)),
+        b'i' => document_003::read(value(case, 1, 16)),
         b'k' => document_003::kind(case),
         b'm' => document_000::message(case),
         b'n' => document_000::node(case),
@@ -38,10 +38,9 @@ fn walk(table: &[u8]) {
     let mut k = 0;
     while k < count {
         let text = part(table, b'|', k);
-        if letter(text) == b'\n' {
-            row = k;
-        } else {
-            case(part(part(table, b'|', row), b'\n', 1), text);
+        match letter(text) {
+            b'\n' => row = k,
+            _ => run(part(part(table, b'|', row), b'\n', 1), text),
         }
         k += 1;
     }

@@ -137,7 +137,7 @@ pub fn say_case(line: &[u8], case: &[u8]) {
 }
 
 // A word of a case as a number to a base.
-pub fn number(case: &[u8], k: usize, base: u8) -> u32
+pub fn value(case: &[u8], k: usize, base: u8) -> u32
     ensures { λ r. ⌜ r ≡ valueOf base (partOf 59 k (now (case .entry))) ⌝ }
 {
     let word = part(case, b';', k);
@@ -154,5 +154,5 @@ pub fn number(case: &[u8], k: usize, base: u8) -> u32
 pub fn byte(case: &[u8], k: usize, base: u8) -> u8
     ensures { λ r. ⌜ r ≡ valueOf base (partOf 59 k (now (case .entry))) % 256 ⌝ }
 {
-    (number(case, k, base) % 256) as u8
+    (value(case, k, base) % 256) as u8
 }

@@ -7,7 +7,7 @@ use published_lines::*;
 use server::TrailerRecord;
 
 // The first letter of the row's word says what is asked of the record.
-fn case(record: TrailerRecord, row: &[u8], case: &[u8]) {
+fn run(record: TrailerRecord, row: &[u8], case: &[u8]) {
     say_case(part(row, b';', 1), case);
     match letter(row) {
         b'b' => sheets::basis(case),
@@ -27,10 +27,9 @@ fn walk(record: TrailerRecord, table: &[u8]) {
     let mut k = 0;
     while k < count {
         let text = part(table, b'|', k);
-        if letter(text) == b'\n' {
-            row = k;
-        } else {
-            case(record, part(part(table, b'|', row), b'\n', 1), text);
+        match letter(text) {
+            b'\n' => row = k,
+            _ => run(record, part(part(table, b'|', row), b'\n', 1), text),
         }
         k += 1;
     }

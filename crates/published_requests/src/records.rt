@@ -75,9 +75,9 @@ pub fn ask(record: TrailerRecord, letter: u8, case: &[u8]) {
 pub fn lengths(record: TrailerRecord, case: &[u8]) {
     let mut bytes = [0u8; 256];
     bytes[0] = 0x22;
-    let request = front(&bytes, number(case, 0, 10) as usize);
+    let request = front(&bytes, value(case, 0, 10) as usize);
     let mut response = [0u8; 256];
-    let room = (number(case, 1, 10) % 257) as usize;
+    let room = (value(case, 1, 10) % 257) as usize;
     let served = serve(record, request, false, &mut response[..room]);
     let answer = served.answer;
     let told = answer.told();
@@ -96,7 +96,7 @@ pub fn kept(record: TrailerRecord, case: &[u8]) {
         let given = byte(case, 2 * k + 2, 16);
         match letter(part(case, b';', 2 * k + 1)) {
             b'a' => changed.availability = given,
-            b'c' => changed.codes[62] = number(case, 2 * k + 2, 16),
+            b'c' => changed.codes[62] = value(case, 2 * k + 2, 16),
             b'h' => changed.held = given,
             b'i' => changed.identifiers[15] = given as u16,
             b'l' => changed.lengths[14] = given,
@@ -162,7 +162,7 @@ ask;256 bytes,$:|\x22\0\x01\0\x01\0\x01\0\x01\0\x01\0\x01\0\x01\0\x03|
 
 // A status, and the code that it is set of.
 pub fn set(record: TrailerRecord, case: &[u8]) {
-    let done = set_status(record, number(case, 1, 16), byte(case, 0, 16));
+    let done = set_status(record, value(case, 1, 16), byte(case, 0, 16));
     let answer = done.answer;
     let told = answer.told();
     if !refused(told.refusal) {

@@ -25,9 +25,9 @@ pub fn shown(input: &[u8]) {
 // A name, how many bytes of the reading there are, and the byte that stands at a place of it.
 pub fn reading(case: &[u8]) {
     let mut input = READING;
-    let place = (number(case, 2, 10) % 17) as usize;
+    let place = (value(case, 2, 10) % 17) as usize;
     input[place] = byte(case, 3, 16);
-    shown(front(&input, number(case, 1, 10) as usize));
+    shown(front(&input, value(case, 1, 10) as usize));
 }
 
 // A mask, and the availability mask.

@@ -27,7 +27,7 @@ fn identifiers() {
     let mut i = 0;
     while i < 512 {
         let place = i / 32;
-        record.identifiers[place] = (number(held, place, 16) % 65536) as u16;
+        record.identifiers[place] = (value(held, place, 16) % 65536) as u16;
         record.lengths[place] = byte(b"1;1;2;2;2;3;3;3;1;17;2;2;2;2;2;5", place, 10);
         record.bytes[i] = place as u8;
         i += 1;

@@ -9,7 +9,7 @@ use Rattle.published_requests.proofs.records.lengths.Statement.{stateme
 use Rattle.published_requests.proofs.records.lengths.Tie as tie
 
 slice-aggregate-serve : tie.Need-slice-aggregate-serve
-slice-aggregate-serve c = sym (length-take-le {A = ℕ} (c .before .number2 .result % 257) (replicate 256 0) (omega (arith, length-replicate {A = ℕ} 256 0)))
+slice-aggregate-serve c = sym (length-take-le {A = ℕ} (c .before .value2 .result % 257) (replicate 256 0) (omega (arith, length-replicate {A = ℕ} 256 0)))
 
 pub lengths-spec : {M : Type 1} → statement M
 lengths-spec = tie.close (tie.spec (λ c. search needs) (λ c. search needs) (λ c κs. tt) (λ c. search needs) (λ c κs. tt) (λ c κs. tt)

@@ -1,4 +1,4 @@
--- `number` meets its contract: the total so far is the number of the digits passed.
+-- `value` meets its contract: the total so far is the number of the digits passed.
 use mathlib.Core.Path.{_≡_, sym, ap, _∙_}
 use Prim.Native.Nat.{_-_, _≤_}
 use lib.ListN.{length}
@@ -6,8 +6,8 @@ use native.Mathlib.Omega.{arith}
 use borrow.Author.Needs.{needs}
 use Rattle.published_lines.specs.Tables.{valueBelow, valueOf}
 use Rattle.published_lines.proofs.LawsTables.{no-digit, one-digit, product-fits, digit-le, whole-word}
-use Rattle.published_lines.proofs.number.Statement.{statement}
-use Rattle.published_lines.proofs.number.Tie as tie
+use Rattle.published_lines.proofs.value.Statement.{statement}
+use Rattle.published_lines.proofs.value.Tie as tie
 
 abbrev Inv-loop : tie.InvT-loop
 Inv-loop case k base word total₀ i₀ t8 total i = (i ≤ length word) × ((total ≤ 4294967295) × (total ≡ valueBelow base word i))
@@ -37,6 +37,6 @@ returns c =
     let e : length (word .result .now) ≡ c .before .loop .i = omega arith in
     whole-word _ _ e (c .before .loop .inv .1 .1) ∙ ap (valueOf (c .before .before .before .before .args .base)) (word .ensures)
 
-pub number-spec : {M : Type 1} → statement M
-number-spec = tie.close (tie.spec Inv-loop μ-loop (λ c κs. tt) loop-holds (λ c. search needs) (λ c. search needs) (λ c κs. tt) (λ c. search needs)
+pub value-spec : {M : Type 1} → statement M
+value-spec = tie.close (tie.spec Inv-loop μ-loop (λ c κs. tt) loop-holds (λ c. search needs) (λ c. search needs) (λ c κs. tt) (λ c. search needs)
     mul-total add-total (λ c. search needs) (λ c. search needs) (λ c. search needs) loop-again returns)
