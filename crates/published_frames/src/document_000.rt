@@ -56,7 +56,7 @@ fn offer(node: Node, buffer: &mut [u8], identifier: u32, data: &[u8], stamp: u32
     next
 }
 
-// A name, then frames one after the other to trailer 1 with unit 5: data (F and S are those two frames), an identifier, a stamp, and a line.
+// A name, then frames one after the other to trailer 1 with unit 5: data (F: FIRST, S: SECOND), an identifier, a stamp, and a line.
 pub fn sequence(case: &[u8]) {
     let count = marks(case, b'/');
     let mut buffer = [0u8; 1536];

@@ -87,7 +87,7 @@ pub fn lengths(record: TrailerRecord, case: &[u8]) {
     }
 }
 
-// A name; then fields, each with the number that it has in place of its own.
+// A name; then the first letters of fields (n: how many codes there are), each with the number that the field has in place of its own.
 pub fn kept(record: TrailerRecord, case: &[u8]) {
     let fields = marks(case, b';') / 2;
     let mut changed = record;
@@ -111,7 +111,7 @@ pub fn kept(record: TrailerRecord, case: &[u8]) {
     }
 }
 
-// Codes 0, 1, .. 62, each with the status 08; codes[62], and statuses[0].
+// Codes 0, 1, .. 62, each with the status 08.
 fn codes() {
     let mut record = faulty();
     record.count = 63;
