@@ -59,7 +59,7 @@ fn offer(node: Node, buffer: &mut [u8], identifier: u32, data: &[u8], stamp: u32
 // A name, then frames one after the other to trailer 1 with unit 5: data (F: FIRST, S: SECOND), an identifier, a stamp, and a line.
 pub fn sequence(case: &[u8]) {
     let count = marks(case, b'/');
-    let mut buffer = [0u8; 1536];
+    let mut buffer = [0u8; BUFFER];
     let mut node = start(5);
     let mut k = 0;
     while k < count {
@@ -80,14 +80,14 @@ pub fn sequence(case: &[u8]) {
 
 // A name, data and an identifier: the frame is offered alone, to trailer 1 with unit 5.
 pub fn offered(case: &[u8]) {
-    let mut buffer = [0u8; 1536];
+    let mut buffer = [0u8; BUFFER];
     let data = part(case, b';', 1);
     offer(start(5), &mut buffer, value(case, 2, 16), data, 0);
 }
 
 // The frame 3E 00 to unit 5.
 fn presence(node: Node, identifier: u32) {
-    let mut buffer = [0u8; 1536];
+    let mut buffer = [0u8; BUFFER];
     offer(node, &mut buffer, identifier, &PRESENCE, 0);
 }
 
@@ -142,7 +142,7 @@ pub fn hears(case: &[u8]) {
 // All frames of a message from the tractor to trailer 1, each 150 ms after the one before, the second byte of each said; the stamps run round.
 fn read_back(message: &[u8]) {
     let count = frame_count(message.len());
-    let mut buffer = [0u8; 1536];
+    let mut buffer = [0u8; BUFFER];
     let mut node = start(5);
     let mut unchanged = false;
     let mut stamp: u32 = 0xFFFFFFF0;

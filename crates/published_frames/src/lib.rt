@@ -48,6 +48,8 @@ fn walk(table: &[u8]) {
 
 pub fn print_frames() {
     tables::document_003();
+    tables::routes();
     tables::document_000();
+    tables::trains();
     tables::limits();
 }

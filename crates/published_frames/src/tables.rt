@@ -2,7 +2,7 @@
 // said, and the cases, whose words stand in it; data stands as it is in a frame, and has none of the marks | ; and /.
 use crate::walk;
 
-// The tables 1, 3, 7, 8, 4 and 5, the address that a trailer takes, the data ranges of the eight kinds, and the routes.
+// The tables 1, 3, 7, 8, 4 and 5, the address that a trailer takes, and the data ranges of the eight kinds.
 pub fn document_003() {
     walk(
         b"
@@ -25,20 +25,42 @@ kind;003 6.4.2.15, engine speed, raw #: |0;5;0;8|64255;5;64255;8|
 kind;003 6.4.2.18, reference torque, raw #: |0;6;0;1|64255;6;64255;1|
 kind;003 6.4.2.55, ambient temperature, raw #: |0;7;-8736;32|8735;7;-1;32|8736;7;0;32|64255;7;55519;32|
 kind;no kind 8, raw #: |0;8;0;1|
-route;003 6.3, from the #: # at position ##: |predecessor;18CEC1C9;2; with a successor|predecessor;18CEC1C9;2|\
-predecessor;18CEB9C9;2; with a successor|predecessor;18CEFFEB;2; with a successor|predecessor;18EFB9C9;2; with a successor|\
-predecessor;18F0B9C9;2; with a successor|predecessor;18CEC1C1;2; with a successor|predecessor;18CEC1B9;2; with a successor|\
-predecessor;18CEC1C8;2; with a successor|successor;18CEC1B9;2; with a successor|successor;18CEEBB9;2; with a successor|\
-successor;18CEC1C1;2; with a successor|successor;18CEC1C9;2; with a successor|successor;18CEC1B9;2|predecessor;18CEA9B1;5|\
-predecessor;18CEA9B1;5; with a successor|predecessor;18CEC9EB;0; with a successor|predecessor;18CEC9EB;1; with a successor|\
-predecessor;18CEC9EB;6|predecessor;20000000;2; with a successor|predecessor;1FFFFFFF;2; with a successor|
+",
+    );
+}
+
+// 6.3: the side that a frame comes from, its identifier, the own position, and whether there is a successor.
+pub fn routes() {
+    walk(
+        b"
+route;003 6.3, from the #: # at position ##: |\
+predecessor;18CEC1C9;2; with a successor|\
+predecessor;18CEC1C9;2|\
+predecessor;18CEB9C9;2; with a successor|\
+predecessor;18CEFFEB;2; with a successor|\
+predecessor;18EFB9C9;2; with a successor|\
+predecessor;18F0B9C9;2; with a successor|\
+predecessor;18CEC1C1;2; with a successor|\
+predecessor;18CEC1B9;2; with a successor|\
+predecessor;18CEC1C8;2; with a successor|\
+successor;18CEC1B9;2; with a successor|\
+successor;18CEEBB9;2; with a successor|\
+successor;18CEC1C1;2; with a successor|\
+successor;18CEC1C9;2; with a successor|\
+successor;18CEC1B9;2|\
+predecessor;18CEA9B1;5|\
+predecessor;18CEA9B1;5; with a successor|\
+predecessor;18CEC9EB;0; with a successor|\
+predecessor;18CEC9EB;1; with a successor|\
+predecessor;18CEC9EB;6|\
+predecessor;20000000;2; with a successor|\
+predecessor;1FFFFFFF;2; with a successor|
 route;# bytes under # at position ##: |nine;1FFFFFFF;2; with a successor;123456789|nine;20000000;2; with a successor;123456789|
 ",
     );
 }
 
-// Tables 29 to 31. The commercial vehicle, xx in them, has the address EB; document 01 has functional frames go to FF alone. Then the second
-// and the third frame of a message; and frames between two, of the same vehicle, which end the reception or are passed over, and of others.
+// Tables 29 to 31. The commercial vehicle, xx in them, has the address EB; document 01 has functional frames go to FF alone.
 pub fn document_000() {
     walk(
         b"
@@ -47,13 +69,36 @@ channel;000 table 29, DCC#-2P |11;1CCEC9EB;1|12;1CCEC1EB;2|13;1CCEB9EB;3|14;1CCE
 channel;000 table 30, DCC#-2F |11;1CCDC9EB;1|12;1CCDC1EB;2|13;1CCDB9EB;3|14;1CCDB1EB;4|15;1CCDA9EB;5|21;1CCDEBC9;1|22;1CCDEBC1;2|\
 23;1CCDEBB9;3|24;1CCDEBB1;4|25;1CCDEBA9;5|
 offered;document 01, #: |functional to FF;\x05\x02\x3E\x00;1CCDFFEB|
-offered;000 table 31, #, data$: |SF;\x05\x00\x3E\x00;18CEC9EB|SF;\x05\x01\x3E;18CEC9EB|SF;\x05\x01;18CEC9EB|\
-SF;\x05\x06\x22\xF1\x90\xF1\x87\xF1;18CEC9EB|SF;\x05\x06\x22\xF1\x90\xF1\x87;18CEC9EB|SF;\x05\x07\x22\xF1\x90\xF1\x87\xF1;18CEC9EB|\
-functional SF;\x05\x02\x3E\x00;18CDFFEB|FF;\x05\x10\x06\x22\xF1\x90\xF1\x87;18CEC9EB|FF;\x05\x10\x07\x22\xF1\x90\xF1\x87;18CEC9EB|\
-FF;\x05\x10\x07\x22\xF1\x90\xF1;18CEC9EB|FF;\x05\x10\xFF\x22\xF1\x90\xF1\x87;18CEC9EB|FF;\x05\x11\x00\x22\xF1\x90\xF1\x87;18CEC9EB|\
-FF;\x05\x1F\xFF\x22\xF1\x90\xF1\x87;18CEC9EB|functional FF;\x05\x10\x07\x22\xF1\x90\xF1\x87;18CDFFEB|CF;\x05\x21\xF1\x8C;18CEC9EB|\
-functional CF;\x05\x21\xF1\x8C;18CDFFEB|FC;\x05\x30\x00\x00;18CEC9EB|functional FC;\x05\x30\x00\x00;18CDFFEB|RBD;\x05\x40;18CEC9EB|\
+offered;000 table 31, #, data$: |\
+SF;\x05\x00\x3E\x00;18CEC9EB|\
+SF;\x05\x01\x3E;18CEC9EB|\
+SF;\x05\x01;18CEC9EB|\
+SF;\x05\x06\x22\xF1\x90\xF1\x87\xF1;18CEC9EB|\
+SF;\x05\x06\x22\xF1\x90\xF1\x87;18CEC9EB|\
+SF;\x05\x07\x22\xF1\x90\xF1\x87\xF1;18CEC9EB|\
+functional SF;\x05\x02\x3E\x00;18CDFFEB|\
+FF;\x05\x10\x06\x22\xF1\x90\xF1\x87;18CEC9EB|\
+FF;\x05\x10\x07\x22\xF1\x90\xF1\x87;18CEC9EB|\
+FF;\x05\x10\x07\x22\xF1\x90\xF1;18CEC9EB|\
+FF;\x05\x10\xFF\x22\xF1\x90\xF1\x87;18CEC9EB|\
+FF;\x05\x11\x00\x22\xF1\x90\xF1\x87;18CEC9EB|\
+FF;\x05\x1F\xFF\x22\xF1\x90\xF1\x87;18CEC9EB|\
+functional FF;\x05\x10\x07\x22\xF1\x90\xF1\x87;18CDFFEB|\
+CF;\x05\x21\xF1\x8C;18CEC9EB|\
+functional CF;\x05\x21\xF1\x8C;18CDFFEB|\
+FC;\x05\x30\x00\x00;18CEC9EB|\
+functional FC;\x05\x30\x00\x00;18CDFFEB|\
+RBD;\x05\x40;18CEC9EB|\
 RBD;\x05\xFF;18CEC9EB|
+",
+    );
+}
+
+// 10.4.2.2.4 and N_Cr: messages cut and read back; the second and the third frame of a message; and frames between two, of the same vehicle,
+// which end the reception or are passed over, and of others.
+pub fn trains() {
+    walk(
+        b"
 message;000 10.4.2.2.4, a message of # bytes:|0|1|6|7|11|12|101|255|256|
 sequence;|gap 0/F;18CEC9EB;7;, first frame: /\x05\x21\xF1\x8C\xF1\x95\xF1\x97;18CEC9EB;7;, data$: |\
 000 N_Cr, gap 150/F;18CEC9EB;FFFFFFF0;, first frame: /\x05\x21\xF1\x8C\xF1\x95\xF1\x97;18CEC9EB;86;, data$: |\

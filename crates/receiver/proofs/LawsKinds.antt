@@ -5,7 +5,7 @@ use mathlib.Core.List.{List}
 use mathlib.Core.Logic.{_≢_, _↔_}
 use Prim.Native.Nat.{ℕ, suc, _+_, _*_, _/_, _%_, _≤_}
 use native.Mathlib.Omega.{arith}
-use borrow.Author.Tests.{lt-ltb, le-ltb, eq-eqb, ne-eqb}
+use borrow.Author.Tests.{lt-ltb, le-ltb, ne-eqb}
 use lib.Dec.{eqb}
 use lib.ListN.{length, getD}
 use Rattle.identifiers.specs.Choice.{pick}
@@ -16,6 +16,7 @@ use Rattle.receiver.specs.declared.frame.Judged.the-variants.{Refused, S
 use Rattle.receiver.specs.Frames.{singleOf, firstLength, firstOf, carriedOf, judgedFrom, judgedOf}
 use Rattle.receiver.specs.Wire.{Addressed, IsSingle, IsFirst, IsOverLong, IsConsecutive}
 use Rattle.receiver.proofs.LawsAddressings.{addressing-is}
+use Rattle.receiver.proofs.LawsCarried.{single-carried, physical-carried}
 use Rattle.receiver.proofs.LawsFrames.{fair}
 
 module _ (own : Position) (unit n : ℕ) (bytes : List ℕ) where
@@ -26,7 +27,7 @@ module _ (own : Position) (unit n : ℕ) (bytes : List ℕ) where
 
   -- ---- each kind, by its identifier and its bytes
   pub single-is : (p : Position) (functional : Bool) (L : ℕ) → judgedOf own unit n bytes ≡ Single p functional L ↔ (Addressed own unit n bytes p functional × IsSingle bytes L)
-  unfolding carriedOf singleOf
+  unfolding singleOf
   single-is p functional L = (
     fair own unit n bytes _,
     λ (x : Addressed own unit n bytes p functional × IsSingle bytes L).
@@ -34,8 +35,7 @@ module _ (own : Position) (unit n : ℕ) (bytes : List ℕ) where
         let some : L ≢ 0 = λ (e : L ≡ 0). omega (arith, k .least) in
         let r = k .room in
         judged-carried p functional (x .0)
-        ∙ pick-false _ _ (le-ltb (length bytes) 2 (omega arith))
-        ∙ pick-true _ _ (eq-eqb _ _ (k .high))
+        ∙ single-carried bytes p functional (omega arith) (k .high)
         ∙ ap (λ (i : ℕ). singleOf p functional i (length bytes)) (k .low)
         ∙ pick-false _ _ (ne-eqb _ _ some)
         ∙ pick-false _ _ (le-ltb _ _ (k .most))
@@ -45,10 +45,7 @@ module _ (own : Position) (unit n : ℕ) (bytes : List ℕ) where
   -- a physical frame whose high half is not 0
   not-single : (p : Position) (high : ℕ) → Addressed own unit n bytes p false → 2 ≤ length bytes → getD bytes 1 0 / 16 ≡ suc high
       → judgedOf own unit n bytes ≡ pick (eqb (suc high) 1) (firstOf p bytes) (pick (eqb (suc high) 2) (Consecutive p (getD bytes 1 0 % 16)) (pick (eqb (suc high) 3) (Refused (refusal 10)) (Refused (refusal 9))))
-  unfolding carriedOf
-  not-single p high a r e =
-      let z : suc high ≢ 0 = λ (d : suc high ≡ 0). omega arith in
-      judged-carried p false a ∙ pick-false _ _ (le-ltb (length bytes) 2 r) ∙ rw e (pick-false _ _ (ne-eqb (suc high) 0 z) ∙ pick-false _ _ refl)
+  not-single p high a r e = judged-carried p false a ∙ physical-carried bytes p false r refl (λ (d : getD bytes 1 0 / 16 ≡ 0). omega arith) ∙ rw e
 
   pub first-is : (p : Position) (L : ℕ) → judgedOf own unit n bytes ≡ First p L ↔ (Addressed own unit n bytes p false × IsFirst bytes L)
   unfolding firstOf firstLength

@@ -1,92 +1,39 @@
 -- Refusals 2 to 10 of a frame by itself, and 12, 9, 13 and 14 of a consecutive frame, exactly where document 01 gives them: where its own check fails and all before it hold.
 use mathlib.Core.Path.{_≡_, refl, ap, subst, _∙_}
-use mathlib.Core.Bool.{Bool, false}
+use mathlib.Core.Bool.{false}
 use mathlib.Core.List.{List}
-use mathlib.Core.Logic.{_≢_, _↔_}
-use Prim.Native.Nat.{ℕ, _+_, _*_, _/_, _%_, _≤_}
+use mathlib.Core.Logic.{_↔_}
+use Prim.Native.Nat.{ℕ, _≤_}
 use native.Mathlib.Omega.{arith}
 use borrow.Author.Tests.{ltb-true, ltb-false, eqb-true, eqb-false, le-ltb, lt-ltb, eq-eqb, ne-eqb}
-use lib.Dec.{eqb, lit≤}
-use lib.ListN.{length, getD}
-use Rattle.identifiers.specs.Choice.{pick}
+use lib.Dec.{lit≤}
+use lib.ListN.{length}
 use Rattle.identifiers.specs.Refusals.{refusal, numberOf}
 use Rattle.identifiers.specs.declared.refusal.Refusal.{Refusal}
 use Rattle.identifiers.proofs.LawsChoice.{Holds, by-test, pick-true, pick-false}
 use Rattle.readings.specs.declared.position.Position.{Position}
-use Rattle.receiver.specs.declared.frame.Judged.{Judged}
-use Rattle.receiver.specs.declared.frame.Judged.the-variants.{Refused, Consecutive}
+use Rattle.receiver.specs.declared.frame.Judged.the-variants.{Refused}
 use Rattle.receiver.specs.declared.reception.Reception.{Reception}
 use Rattle.receiver.specs.declared.outcome.Outcome.{Outcome}
 use Rattle.receiver.specs.declared.outcome.Outcome.the-variants as outcome
 use Rattle.receiver.specs.Receptions.{closed}
-use Rattle.receiver.specs.Frames.{firstLength, firstOf, singleOf, carriedOf, judgedFrom, judgedOf}
+use Rattle.receiver.specs.Frames.{judgedFrom, judgedOf}
 use Rattle.receiver.specs.Steps.{Step, leaving, closing, doneOf, leftOf, takenStep, followed}
-use Rattle.receiver.specs.Names.{Malformed, no-second, single-of-none, single-over-six, single-short, functional-not-single, first-short, first-under-seven, no-kind}
 use Rattle.receiver.specs.Names.{Names, misaddressed, names-9, names-10, NamesNext, names-12, names-short, names-13, names-14}
 use Rattle.receiver.proofs.LawsAddressings.{misaddressed-exactly}
+use Rattle.receiver.proofs.LawsCarried.{carried-9, carried-10}
 use Rattle.receiver.proofs.LawsFrames.{fair}
 use Rattle.receiver.proofs.LawsKinds.{judged-carried}
 
 abbrev told : Step → Outcome
 told s = s .outcome
 
-abbrev Nine : Judged → Type 0
-Nine j = j ≡ Refused (refusal 9)
-
 module _ (own : Position) (unit n : ℕ) (bytes : List ℕ) where
-  abbrev high : ℕ
-  high = getD bytes 1 0 / 16
-
-  -- 9 and 10
-  single-nine : (p : Position) (functional : Bool) → (getD bytes 1 0 % 16 ≢ 0 → getD bytes 1 0 % 16 ≤ 6 → 2 + getD bytes 1 0 % 16 ≤ length bytes → ⊥)
-      → singleOf p functional (getD bytes 1 0 % 16) (length bytes) ≡ Refused (refusal 9)
-  unfolding singleOf
-  single-nine p functional x =
-      by-test {P = Nine} _ (λ a. record { holds = refl })
-      (λ a. by-test _ (λ b. record { holds = refl }) (λ b. by-test _ (λ c. record { holds = refl }) (λ c. absurd (x (eqb-false _ _ a) (ltb-false _ _ b) (ltb-false _ _ c))))) .holds
-
-  first-nine : (p : Position) → (8 ≤ length bytes → 7 ≤ getD bytes 1 0 % 16 * 256 + getD bytes 2 0 → ⊥) → firstOf p bytes ≡ Refused (refusal 9)
-  unfolding firstOf firstLength
-  first-nine p x =
-      by-test {P = Nine} _ (λ a. record { holds = refl }) (λ a. by-test _ (λ b. record { holds = refl }) (λ b. absurd (x (ltb-false _ _ a) (ltb-false _ _ b)))) .holds
-
-  module _ (p : Position) (functional : Bool) where
-    single-carried : 2 ≤ length bytes → high ≡ 0 → carriedOf p functional bytes ≡ singleOf p functional (getD bytes 1 0 % 16) (length bytes)
-    unfolding carriedOf
-    single-carried two e = pick-false _ _ (le-ltb _ _ two) ∙ pick-true _ _ (eq-eqb _ _ e)
-
-    physical-carried : 2 ≤ length bytes → functional ≡ false → high ≢ 0
-        → carriedOf p functional bytes ≡ pick (eqb high 1) (firstOf p bytes) (pick (eqb high 2) (Consecutive p (getD bytes 1 0 % 16)) (pick (eqb high 3) (Refused (refusal 10)) (Refused (refusal 9))))
-    unfolding carriedOf
-    physical-carried two d z = pick-false _ _ (le-ltb _ _ two) ∙ pick-false _ _ (ne-eqb _ _ z) ∙ pick-false _ _ d
-
-    carried-9 : Malformed functional bytes → carriedOf p functional bytes ≡ Refused (refusal 9)
-    unfolding carriedOf
-    carried-9 (no-second h) = pick-true _ _ (lt-ltb _ _ h)
-    carried-9 (single-of-none two e z) = single-carried two e ∙ single-nine p functional (λ a b c. a z)
-    carried-9 (single-over-six two e h) = single-carried two e ∙ single-nine p functional (λ a b c. omega arith)
-    carried-9 (single-short two e h) = single-carried two e ∙ single-nine p functional (λ a b c. omega arith)
-    carried-9 (functional-not-single two d z) = pick-false _ _ (le-ltb _ _ two) ∙ pick-false _ _ (ne-eqb _ _ z) ∙ pick-true _ _ d
-    carried-9 (first-short two d e h) = physical-carried two d (λ (z : high ≡ 0). omega arith) ∙ pick-true _ _ (eq-eqb _ _ e) ∙ first-nine p (λ a b. omega arith)
-    carried-9 (first-under-seven d e r h) = physical-carried (omega arith) d (λ (z : high ≡ 0). omega arith) ∙ pick-true _ _ (eq-eqb _ _ e) ∙ first-nine p (λ a b. omega arith)
-    carried-9 (no-kind two d h) =
-        physical-carried two d (λ (z : high ≡ 0). omega arith)
-        ∙ pick-false _ _ (ne-eqb high 1 (λ (z : high ≡ 1). omega arith))
-        ∙ pick-false _ _ (ne-eqb high 2 (λ (z : high ≡ 2). omega arith))
-        ∙ pick-false _ _ (ne-eqb high 3 (λ (z : high ≡ 3). omega arith))
-
-    carried-10 : functional ≡ false → 2 ≤ length bytes → high ≡ 3 → carriedOf p functional bytes ≡ Refused (refusal 10)
-    carried-10 d two e =
-        physical-carried two d (λ (z : high ≡ 0). omega arith)
-        ∙ pick-false _ _ (ne-eqb high 1 (λ (z : high ≡ 1). omega arith))
-        ∙ pick-false _ _ (ne-eqb high 2 (λ (z : high ≡ 2). omega arith))
-        ∙ pick-true _ _ (eq-eqb _ _ e)
-
   named-so : {why : Refusal} → Names own unit n bytes why → judgedOf own unit n bytes ≡ Refused why
   unfolding judgedOf judgedFrom
   named-so (misaddressed x) = ap (judgedFrom bytes) (misaddressed-exactly own unit n bytes _ .1 x)
-  named-so (names-9 {p} {functional} a x) = judged-carried own unit n bytes p functional a ∙ carried-9 p functional x
-  named-so (names-10 {p} a two e) = judged-carried own unit n bytes p false a ∙ carried-10 p false refl two e
+  named-so (names-9 {p} {functional} a x) = judged-carried own unit n bytes p functional a ∙ carried-9 bytes p functional x
+  named-so (names-10 {p} a two e) = judged-carried own unit n bytes p false a ∙ carried-10 bytes p false refl two e
 
   -- "Lowest first": a frame is refused with this number exactly where it names the frame
   pub refused-exactly : (why : Refusal) → judgedOf own unit n bytes ≡ Refused why ↔ Names own unit n bytes why

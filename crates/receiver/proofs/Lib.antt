@@ -5,6 +5,7 @@ pub mod LawsPieces
 pub mod LawsOnWire
 pub mod LawsCutter
 pub mod LawsAddressings
+pub mod LawsCarried
 pub mod LawsFrames
 pub mod LawsKinds
 pub mod LawsRungs

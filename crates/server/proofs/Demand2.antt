@@ -44,8 +44,8 @@ module _ (t : TrailerRecord) (request : List ℕ) (functional : Bool) (response 
     pub sent : leaves .response ≡ written response 0 (0x54 ∷ [])
 
   -- "No fault status changes by a request unless a positive clear response answers it":
-  abbrev pub KeptOrCleared : Type 0
-  KeptOrCleared = (leaves .after ≡ t) ⊎ ClearSent
+  abbrev pub StaysOrCleared : Type 0
+  StaysOrCleared = (leaves .after ≡ t) ⊎ ClearSent
 
   -- and nothing else of the record ever changes.
   abbrev pub OnlyStatuses : Type 0
@@ -114,7 +114,7 @@ module _ (t : TrailerRecord) (request : List ℕ) (functional : Bool) (response 
   response-is e = ap (λ (p : Effect). p .response) e
 
   -- a request that is answered positively
-  changed : {asked : Request} → Reads request asked → left ≡ effect (changedBy t asked) (Sent (length (positiveOf t asked request))) (written response 0 (positiveOf t asked request)) → KeptOrCleared t request functional response
+  changed : {asked : Request} → Reads request asked → left ≡ effect (changedBy t asked) (Sent (length (positiveOf t asked request))) (written response 0 (positiveOf t asked request)) → StaysOrCleared t request functional response
   unfolding changedBy positiveOf serviceOf groupOf
   changed (unknown-service x) e = inl (after-is e)
   changed (too-short x) e = inl (after-is e)
@@ -127,10 +127,10 @@ module _ (t : TrailerRecord) (request : List ℕ) (functional : Bool) (response 
   changed (read-data s l o) e = inl (after-is e)
   changed (tester-present s u n) e = inl (after-is e)
 
-  pub kept-or-cleared : KeptOrCleared t request functional response
-  kept-or-cleared = by (ends t request functional response)
+  pub stays-or-cleared : StaysOrCleared t request functional response
+  stays-or-cleared = by (ends t request functional response)
     where
-      by : Ends t request functional response → KeptOrCleared t request functional response
+      by : Ends t request functional response → StaysOrCleared t request functional response
       by (broken a) = inl (after-is (served-1 t request functional response a))
       by (wrong a b) = inl (after-is (served-17 t request functional response a b))
       by (silent a b c) = inl (after-is (served-silent t request functional response a b refl c))
@@ -140,12 +140,12 @@ module _ (t : TrailerRecord) (request : List ℕ) (functional : Bool) (response 
   pub only-statuses : OnlyStatuses t request functional response
   only-statuses =
       ⊎-elim (λ (e : left .after ≡ t). e ∙ ap (λ (u : TrailerRecord). withStatuses t (u .statuses)) (sym e))
-      (λ (s : ClearSent t request functional response). s .after ∙ ap (λ (u : TrailerRecord). withStatuses t (u .statuses)) (sym (s .after))) kept-or-cleared
+      (λ (s : ClearSent t request functional response). s .after ∙ ap (λ (u : TrailerRecord). withStatuses t (u .statuses)) (sym (s .after))) stays-or-cleared
 
   pub sound-after : SoundAfter t request functional response
   sound-after h =
       ⊎-elim (λ (e : left .after ≡ t). ap soundRecord e ∙ h)
-      (λ (s : ClearSent t request functional response). ap soundRecord (s .after) ∙ sound-with t _ h (within-way t _ (clear-way t (groupOf request)) (cleared-within (t .availability)) (sound-has t h .statuses))) kept-or-cleared
+      (λ (s : ClearSent t request functional response). ap soundRecord (s .after) ∙ sound-with t _ h (within-way t _ (clear-way t (groupOf request)) (cleared-within (t .availability)) (sound-has t h .statuses))) stays-or-cleared
 
   -- "service + 40"
   first-byte : {asked : Request} → Reads request asked → negativeOf t asked request ≡ 0 → getD (positiveOf t asked request) 0 0 ≡ serviceOf request + 0x40
