@@ -10,13 +10,13 @@ use lib.ListN.{length, replicate}
 use borrow.Author.Tests.{leb-true, eqb-true, le-leb, lt-ltb, eq-eqb}
 use Rattle.identifiers.specs.Choice.{pick, either}
 use Rattle.identifiers.specs.Refusals.{refusal}
+use Rattle.identifiers.specs.declared.answer.Answer.the-variants.{Done, Refused}
 use Rattle.identifiers.proofs.LawsChoice.{by-test, pick-true, left-holds, right-holds}
 use Rattle.readings.specs.Positions.{positionAt}
 use Rattle.readings.specs.declared.position.Position.{Position}
 use Rattle.readings.specs.declared.position.Vehicle.{Vehicle}
 use Rattle.readings.specs.declared.position.Vehicle.the-variants.{At, NoVehicle}
 use Rattle.readings.proofs.LawsPositions.{position-past, position-none}
-use Rattle.identifiers.specs.declared.answer.Answer.the-variants.{Done, Refused}
 use Rattle.receiver.specs.declared.cutter.FrameCut.{FrameCut}
 use Rattle.receiver.specs.declared.outcome.Control.{Control}
 use Rattle.receiver.specs.Cuts.{frameCount, noFrame, cutTold, pieceOf, between, cutOf, flowControlOf, Uncut, empty, too-long, past-last, no-sender, no-receiver, same-position}

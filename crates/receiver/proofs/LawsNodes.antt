@@ -9,6 +9,7 @@ use lib.ListN.{length, length-set, length-replicate, getD-replicate}
 use lib.Seq.{set-getD, getD-set-same, getD-set-other}
 use Rattle.identifiers.specs.Refusals.{refusal}
 use Rattle.identifiers.specs.declared.refusal.Refusal.{Refusal}
+use Rattle.identifiers.specs.declared.answer.Answer.the-variants.{Done}
 use Rattle.identifiers.proofs.LawsChoice.{pick-true, pick-false}
 use Rattle.readings.specs.Positions.{placeOf, takenAfter}
 use Rattle.readings.specs.declared.position.Position.{Position}
@@ -16,7 +17,6 @@ use Rattle.readings.specs.declared.position.AddressTaken.the-variants.{Own, Ref
 use Rattle.readings.proofs.LawsPositions.{trailer-back, trailer-no, after-15}
 use Rattle.receiver.specs.declared.reception.Reception.{Reception}
 use Rattle.receiver.specs.declared.node.Node.{Node}
-use Rattle.identifiers.specs.declared.answer.Answer.the-variants.{Done}
 use Rattle.receiver.specs.Receptions.{closed}
 use Rattle.receiver.specs.Nodes.{receptionAt, withReception, soundNode, freshNode, startOf, freshOf, madeAt, done, unchanged, takenTo, takenBy}
 

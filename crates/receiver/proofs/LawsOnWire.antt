@@ -14,13 +14,13 @@ use Rattle.identifiers.specs.Bytes.{written}
 use Rattle.identifiers.specs.Identifiers.{formula, reservedBit, fieldsOf, writtenAs}
 use Rattle.identifiers.specs.declared.identifier.Identifier.{Identifier}
 use Rattle.identifiers.specs.declared.identifier.IdentifierWritten.the-variants as number
+use Rattle.identifiers.specs.declared.answer.Answer.the-variants.{Done}
 use Rattle.identifiers.proofs.LawsChoice.{pick-true, pick-false, right-decides}
 use Rattle.identifiers.proofs.LawsBytes.{take-written}
 use Rattle.identifiers.proofs.LawsIdentifiers.{Widths, formula-range, formula-reserved, formula-fields, write-number}
 use Rattle.readings.specs.Positions.{placeOf}
 use Rattle.readings.specs.declared.position.Position.{Position}
 use Rattle.readings.proofs.LawsPositions.{place-back, address-byte}
-use Rattle.identifiers.specs.declared.answer.Answer.the-variants.{Done}
 use Rattle.receiver.specs.declared.cutter.FrameCut.{FrameCut}
 use Rattle.receiver.specs.declared.outcome.Control.{Control}
 use Rattle.receiver.specs.declared.outcome.Control.the-variants.{Continue, Overflow}

@@ -12,11 +12,11 @@ use Rattle.identifiers.specs.declared.identifier.Identifier.{Identifier}
 use Rattle.identifiers.specs.declared.identifier.IdentifierWritten.{IdentifierWritten}
 use Rattle.identifiers.specs.declared.identifier.IdentifierWritten.the-variants as written
 use Rattle.identifiers.specs.Answers.{answerNumber}
+use Rattle.identifiers.specs.declared.answer.Answer.the-variants.{Done, Refused}
 use Rattle.readings.specs.Positions.{addressOf, positionAt}
 use Rattle.readings.specs.declared.position.Position.{Position}
 use Rattle.readings.specs.declared.position.Vehicle.{Vehicle}
 use Rattle.readings.specs.declared.position.Vehicle.the-variants.{At, NoVehicle}
-use Rattle.identifiers.specs.declared.answer.Answer.the-variants.{Done, Refused}
 use Rattle.receiver.specs.declared.cutter.FrameCut.{FrameCut}
 use Rattle.receiver.specs.declared.cutter.FrameCutTold.{FrameCutTold}
 use Rattle.receiver.specs.declared.outcome.Control.{Control}

@@ -7,6 +7,7 @@ use Rattle.identifiers.specs.Choice.{pick, both}
 use Rattle.identifiers.specs.Below.{allBelow}
 use Rattle.identifiers.specs.Refusals.{refusal}
 use Rattle.identifiers.specs.declared.refusal.Refusal.{Refusal}
+use Rattle.identifiers.specs.declared.answer.Answer.the-variants.{Done, Refused}
 use Rattle.readings.specs.Positions.{placeOf, trailerAt, takenAfter}
 use Rattle.readings.specs.declared.position.Vehicle.{Vehicle}
 use Rattle.readings.specs.declared.position.Vehicle.the-variants.{At, NoVehicle}
@@ -14,7 +15,6 @@ use Rattle.readings.specs.declared.position.AddressTaken.{AddressTaken}
 use Rattle.readings.specs.declared.position.AddressTaken.the-variants as address
 use Rattle.receiver.specs.declared.reception.Reception.{Reception}
 use Rattle.receiver.specs.declared.node.Node.{Node}
-use Rattle.identifiers.specs.declared.answer.Answer.the-variants.{Done, Refused}
 use Rattle.receiver.specs.declared.node.Changed.{Changed}
 use Rattle.receiver.specs.Receptions.{closed, soundReception}
 

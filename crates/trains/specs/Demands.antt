@@ -7,10 +7,10 @@ use mathlib.Core.Logic.{_≢_, _↔_}
 use Prim.Native.Nat.{ℕ, suc, _+_, _-_, _*_, _%_, _^_, _≤_, _<_}
 use lib.ListN.{length, take, drop}
 use Rattle.identifiers.specs.Refusals.{refusal}
+use Rattle.identifiers.specs.declared.answer.Answer.the-variants.{Done, Refused}
 use Rattle.readings.specs.Positions.{placeOf, addressOf}
 use Rattle.readings.specs.declared.position.Position.{Position}
 use Rattle.readings.specs.declared.position.Position.the-variants.{One}
-use Rattle.identifiers.specs.declared.answer.Answer.the-variants.{Done, Refused}
 use Rattle.receiver.specs.declared.frame.Judged.the-variants.{Single, First, OverLong, Consecutive}
 use Rattle.receiver.specs.Nodes.{freshNode, startOf, freshOf}
 use Rattle.receiver.specs.Frames.{Frame}

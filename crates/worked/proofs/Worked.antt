@@ -14,6 +14,7 @@ use Rattle.identifiers.specs.Identifiers.{formula, reservedBit, fieldsOf, frame
 use Rattle.identifiers.specs.declared.identifier.Identifier.{Identifier}
 use Rattle.identifiers.specs.declared.identifier.IdentifierRead.the-variants as read
 use Rattle.identifiers.specs.declared.identifier.Target.the-variants.{Destination}
+use Rattle.identifiers.specs.declared.answer.Answer.the-variants.{Done}
 use Rattle.readings.specs.Fractions.{fraction}
 use Rattle.readings.specs.Kinds as kinds
 use Rattle.readings.specs.Positions.{addresses, addressOf, positions, positionAmong, positionOf, positionAt, trailerAt, successorOf, nextOf, takenAs, takenAfter}
@@ -33,7 +34,6 @@ use Rattle.receiver.specs.Shown.{shownOf}
 use Rattle.receiver.specs.Cuts.{frameCount, noFrame, physicalTo, framedAs, framed, headed, pieceOf, between, cutOf}
 use Rattle.trains.specs.Sequences.{start, _▹_, size, Request}
 use Rattle.trains.specs.Runs.{Held, answer, offered, handed, handedAt, requests}
-use Rattle.identifiers.specs.declared.answer.Answer.the-variants.{Done}
 use Rattle.receiver.specs.declared.outcome.Outcome.{Outcome}
 use Rattle.receiver.specs.declared.outcome.Outcome.the-variants as outcome
 use Rattle.server.specs.Mask.{soundMask}

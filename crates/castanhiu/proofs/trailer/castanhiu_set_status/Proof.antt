@@ -37,10 +37,10 @@ use denote.Triple.Walked.{says, Stays, stay-ref, stay-none, walkOf, AllGo, goes-
 use denote.Exit.{yes}
 use denote.Signature.{plain}
 use Rattle.identifiers.specs.Answers.{answerTold}
+use Rattle.identifiers.specs.declared.answer.Answer.{Answer}
 use Rattle.server.specs.Trailer.{withStatuses}
 use Rattle.server.specs.declared.trailer.TrailerRecord.{TrailerRecord}
 use Rattle.server.specs.declared.status.StatusSet.{StatusSet}
-use Rattle.identifiers.specs.declared.answer.Answer.{Answer}
 use Rattle.server.proofs.trailer.TrailerRecord as T
 use Rattle.server.proofs.trailer.TrailerRecord.Laws as T′
 use Rattle.server.proofs.status.StatusSet as S
