@@ -12,20 +12,22 @@ use lib.Seq.{take-all}
 use Rattle.identifiers.specs.Below.{listBelow}
 use Rattle.identifiers.specs.Bytes.{Puts}
 use Rattle.identifiers.specs.Refusals.{refusal, numberOf}
+use Rattle.text.specs.Digits.{decimalIn, hex, blank, newline, valueFrom, newlines}
+use Rattle.text.proofs.Texts.{decimal-in-says, hex-says}
 use Rattle.sheet.specs.Basis.{basisOf}
 use Rattle.sheet.specs.Sheets.{sheetRead}
 use Rattle.sheet.specs.Readings.{readingsIn, readingOf, readingBytes, sheetOf, Sound, EachSound}
-use Rattle.sheet.specs.Text.{pageSize, decimal, hex, header, blank, newline, wordOf, lineOf, refusalLine, valueFrom, newlines}
+use Rattle.sheet.specs.Text.{pageSize, header, wordOf, numbersOf, lineOf, refusalLine}
 use Rattle.sheet.specs.Printed.{printed}
 use Rattle.identifiers.specs.declared.refusal.Refusal.{Refusal}
 use Rattle.sheet.specs.declared.sheet_read.SheetRead.the-variants.{Accepted, Refused}
 use Rattle.sheet.specs.declared.reading.CountReading.{CountReading}
 use Rattle.sheet.proofs.LawsFields.{position-range}
 use Rattle.sheet.proofs.LawsSheets.{accepted-short, sheet-21}
-use Rattle.sheet.proofs.LawsEarliest.{Earliest, earliest-then-lowest, earliest-refused, refused-range}
+use Rattle.sheet.proofs.LawsEarliest.{Earliest, earliest-then-lowest, earliest-refused, refused-range, refused-small}
 use Rattle.sheet.proofs.LawsReadings.{accepted-whole, accepted-length, whole-accepted}
 use Rattle.sheet.proofs.LawsStands.{Bytes, whole-stands, whole-sound, stands-whole, stands-reading, length-sheet, sheet-stands, each-sound, listed}
-use Rattle.sheet.proofs.LawsText.{decimal-says, hex-says, newlines-line, newlines-refusal, newlines-table}
+use Rattle.sheet.proofs.LawsText.{newlines-line, newlines-refusal, newlines-table}
 use Rattle.sheet.proofs.LawsPrinted.{printed-accepted, printed-refused, print-whole, print-rest}
 
 -- ---- an accepted sheet is whole readings of 17 bytes; a line for each follows the header, in order
@@ -53,16 +55,16 @@ accepted-sheet s b e =
 -- a line says its reading: the columns "decimal, hex, hex, decimal, word" say position, mask, available, count and basis
 pub record LineSays (r : CountReading) : Type 0 where
   pub columns : lineOf r
-      ≡ decimal (r .position) ++ blank ++ hex (r .mask) ++ blank ++ hex (r .available) ++ blank ++ decimal (r .count) ++ blank ++ wordOf (basisOf (r .mask) (r .available)) ++ newline
-  pub position : valueFrom 10 0 (decimal (r .position)) ≡ r .position
+      ≡ decimalIn 5 (r .position) ++ blank ++ hex (r .mask) ++ blank ++ hex (r .available) ++ blank ++ decimalIn 5 (r .count) ++ blank ++ wordOf (basisOf (r .mask) (r .available)) ++ newline
+  pub position : valueFrom 10 0 (decimalIn 5 (r .position)) ≡ r .position
   pub mask : valueFrom 16 0 (hex (r .mask)) ≡ r .mask
   pub available : valueFrom 16 0 (hex (r .available)) ≡ r .available
-  pub count : valueFrom 10 0 (decimal (r .count)) ≡ r .count
+  pub count : valueFrom 10 0 (decimalIn 5 (r .count)) ≡ r .count
 
 pub line-says : (r : CountReading) → Sound r → LineSays r
-unfolding lineOf
+unfolding lineOf numbersOf
 line-says r h =
-    record { columns = refl; position = decimal-says (r .position) (omega (arith, position-range (r .position) (h .position) .1)); mask = hex-says (r .mask); available = hex-says (r .available); count = decimal-says (r .count) (omega (arith, h .count)) }
+    record { columns = refl; position = decimal-in-says 5 (r .position) (omega (arith, position-range (r .position) (h .position) .1)); mask = hex-says (r .mask) (h .masks .0); available = hex-says (r .available) (h .masks .1); count = decimal-in-says 5 (r .count) (omega (arith, h .count)) }
 
 -- ---- readings written one after the other are accepted, and read back
 pub record WrittenSheet (rs : List CountReading) : Type 0 where
@@ -101,27 +103,8 @@ earliest-field-then-lowest s why offset l = (earliest-then-lowest s why offset l
 pub record RefusedSheet (s : List ℕ) (why : Refusal) (offset : ℕ) : Type 0 where
   pub text : printed s ≡ refusalLine (numberOf why) offset
   pub one-line : newlines (printed s) ≡ 1
-  pub number : valueFrom 10 0 (decimal (numberOf why)) ≡ numberOf why
-  pub place : valueFrom 10 0 (decimal offset) ≡ offset
-
--- what 21 and the others have in common: a number of two digits, and an offset in the input
-record Small (s : List ℕ) (why : Refusal) (offset : ℕ) : Type 0 where
-  number : numberOf why ≤ 24
-  place : offset ≤ 65535
-
-refused-small : (s : List ℕ) (why : Refusal) (offset : ℕ) → sheetRead s ≡ Refused why offset → Small s why offset
-refused-small s why offset e = by-length (ltb 65535 (length s)) refl
-  where
-    by-length : (t : Bool) → ltb 65535 (length s) ≡ t → Small s why offset
-    by-length true h =
-        let same : Refused (refusal 21) 0 ≡ Refused why offset = sym (sheet-21 s (ltb-true _ _ h)) ∙ e in
-        let w : refusal 21 ≡ why = cc in
-        let o : 0 ≡ offset = cc in
-        record { number = omega (arith, ap numberOf w); place = omega arith }
-    by-length false h =
-        let l : length s ≤ 65535 = ltb-false _ _ h in
-        let r = refused-range s why offset l e in
-        record { number = r .0 .1; place = omega (arith, r .1) }
+  pub number : valueFrom 10 0 (decimalIn 5 (numberOf why)) ≡ numberOf why
+  pub place : valueFrom 10 0 (decimalIn 5 offset) ≡ offset
 
 pub refused-sheet : (s : List ℕ) (why : Refusal) (offset : ℕ) → sheetRead s ≡ Refused why offset → RefusedSheet s why offset
 refused-sheet s why offset e =
@@ -130,8 +113,8 @@ refused-sheet s why offset e =
     record {
       text = t;
       one-line = ap newlines t ∙ newlines-refusal (numberOf why) offset;
-      number = decimal-says (numberOf why) (omega (arith, r .number));
-      place = decimal-says offset (omega (arith, r .place));
+      number = decimal-in-says 5 (numberOf why) (omega (arith, r .number));
+      place = decimal-in-says 5 offset (omega (arith, r .place));
     }
 
 -- ---- the page: where it holds a text as `print`'s contract says, that is the whole text, and every byte after it is as it was

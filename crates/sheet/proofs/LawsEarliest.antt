@@ -21,7 +21,7 @@ use Rattle.identifiers.specs.declared.refusal.Refusal.{Refusal}
 use Rattle.sheet.specs.declared.sheet_read.SheetRead.{SheetRead}
 use Rattle.sheet.specs.declared.sheet_read.SheetRead.the-variants.{Accepted, Refused}
 use Rattle.sheet.proofs.LawsFields.{right-form, content-stands, field-22, field-23, field-24, field-accepted, sound-field, not-accepted}
-use Rattle.sheet.proofs.LawsSheets.{first-all, first-each, first-stops, first-of, sheet-fields}
+use Rattle.sheet.proofs.LawsSheets.{first-all, first-each, first-stops, first-of, sheet-21, sheet-fields}
 use Rattle.sheet.proofs.LawsReadings.{by-three, one-size, two-size, three-size}
 
 -- the number applies to the field, and no lower one does
@@ -175,3 +175,22 @@ pub refused-range : (s : List ℕ) (why : Refusal) (o : ℕ) → length s ≤ 65
 refused-range s why o h e =
     let r = earliest-then-lowest s why o h e in
     (applies-range s (r .field) (numberOf why) (r .lowest .given), rw (r .place) (offset-within s (r .field) (λ i l. none-accepted s i (λ m. r .earlier i m l))))
+
+-- what 21 and the others have in common: a number of two digits, and an offset in the input
+pub record Small (why : Refusal) (offset : ℕ) : Type 0 where
+  pub number : numberOf why ≤ 24
+  pub place : offset ≤ 65535
+
+pub refused-small : (s : List ℕ) (why : Refusal) (offset : ℕ) → sheetRead s ≡ Refused why offset → Small why offset
+refused-small s why offset e = by-length (ltb 65535 (length s)) refl
+  where
+    by-length : (t : Bool) → ltb 65535 (length s) ≡ t → Small why offset
+    by-length true h =
+        let same : Refused (refusal 21) 0 ≡ Refused why offset = sym (sheet-21 s (ltb-true _ _ h)) ∙ e in
+        let w : refusal 21 ≡ why = cc in
+        let o : 0 ≡ offset = cc in
+        record { number = omega (arith, ap numberOf w); place = omega arith }
+    by-length false h =
+        let l : length s ≤ 65535 = ltb-false _ _ h in
+        let r = refused-range s why offset l e in
+        record { number = r .0 .1; place = omega (arith, r .1) }

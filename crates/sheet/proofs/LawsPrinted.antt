@@ -1,21 +1,18 @@
 -- Laws of the whole text: what an accepted and a refused input print, and that it fits the page.
 use mathlib.Core.Path.{_≡_, refl, sym, ap, _∙_}
-use mathlib.Core.Bool.{Bool, true, false}
-use mathlib.Core.List.{List, [], _∷_, _++_}
-use Prim.Native.Nat.{ℕ, zero, suc, _+_, _*_, _/_, _%_, _≤_}
+use mathlib.Core.List.{List, _++_}
+use Prim.Native.Nat.{ℕ, zero, suc, _+_, _*_, _≤_}
 use native.Mathlib.Omega.{arith}
-use lib.Dec.{ltb}
 use lib.ListN.{length, length-append, take, drop}
-use Rattle.identifiers.specs.Below.{listBelow}
 use Rattle.identifiers.specs.Bytes.{Puts}
-use Rattle.identifiers.specs.Choice.{pick}
 use Rattle.identifiers.specs.Refusals.{numberOf}
 use Rattle.identifiers.proofs.LawsBelow.{list-none, list-suc}
 use Rattle.identifiers.proofs.LawsBytes.{drop-written, keeps-length, puts-whole}
+use Rattle.text.proofs.LawsDigits.{length-decimal-in, length-hex}
 use Rattle.sheet.specs.Basis.{basisOf}
 use Rattle.sheet.specs.Sheets.{sheetRead}
 use Rattle.sheet.specs.Readings.{readingsIn, readingOf}
-use Rattle.sheet.specs.Text.{pageSize, decimalIn, hex, header, wordOf, lineOf, refusalLine}
+use Rattle.sheet.specs.Text.{pageSize, header, wordOf, numbersOf, lineOf, refusalLine}
 use Rattle.sheet.specs.Printed.{linesOf, printedAs, printed}
 use Rattle.identifiers.specs.declared.refusal.Refusal.{Refusal}
 use Rattle.sheet.specs.declared.sheet_read.SheetRead.{SheetRead}
@@ -34,34 +31,28 @@ unfolding printed printedAs
 printed-refused s why o e = rw e
 
 -- ---- how long the parts of a text are
-either-length : (t : Bool) (x y : List ℕ) (n : ℕ) → length x ≤ n → length y ≤ n → length (pick t x y) ≤ n
-unfolding pick
-either-length true x y n a b = a
-either-length false x y n a b = b
-
-length-decimal : (places n : ℕ) → length (decimalIn places n) ≤ places
-unfolding decimalIn
-length-decimal zero n = omega arith
-length-decimal (suc p) n =
-    either-length (ltb n 10) _ _ (suc p) (omega arith) (omega (arith, length-append (decimalIn p (n / 10)) ((48 + n % 10) ∷ []), length-decimal p (n / 10)))
-
-length-word : (b : Basis) → length (wordOf b) ≡ 4
+pub length-word : (b : Basis) → length (wordOf b) ≡ 4
 unfolding wordOf
 length-word None = refl
 length-word Full = refl
 length-word Part = refl
 
-length-line : (r : CountReading) → length (lineOf r) ≤ 23
-unfolding lineOf hex
-length-line r = simp length-append (omega (arith, length-decimal 5 (r .position), length-decimal 5 (r .count), length-word (basisOf (r .mask) (r .available))))
+pub length-numbers : (r : CountReading) → length (numbersOf r) ≤ 18
+unfolding numbersOf
+length-numbers r = simp length-append (omega (arith, length-decimal-in 5 (r .position), length-decimal-in 5 (r .count), length-hex (r .mask), length-hex (r .available)))
 
-length-lines : (f : ℕ → List ℕ) (b n : ℕ) → ((k : ℕ) → length (f k) ≤ b) → length (listBelow f n) ≤ b * n
-length-lines f b zero h = omega (arith, ap length (list-none f))
-length-lines f b (suc n) h = omega (arith, ap length (list-suc f n), length-append (listBelow f n) (f n), length-lines f b n h, h n)
+pub length-line : (r : CountReading) → length (lineOf r) ≤ 23
+unfolding lineOf
+length-line r = simp length-append (omega (arith, length-numbers r, length-word (basisOf (r .mask) (r .available))))
+
+pub length-lines : (s : List ℕ) (n : ℕ) → length (linesOf s n) ≤ 23 * n
+length-lines s zero = omega (arith, ap length (list-none (λ k. lineOf (readingOf s k))))
+length-lines s (suc n) =
+    omega (arith, ap length (list-suc (λ k. lineOf (readingOf s k)) n), length-append (linesOf s n) (lineOf (readingOf s n)), length-lines s n, length-line (readingOf s n))
 
 length-refusal : (n o : ℕ) → length (refusalLine n o) ≤ 23
 unfolding refusalLine
-length-refusal n o = simp length-append (omega (arith, length-decimal 5 n, length-decimal 5 o))
+length-refusal n o = simp length-append (omega (arith, length-decimal-in 5 n, length-decimal-in 5 o))
 
 -- ---- the page
 pub printed-fits : (s : List ℕ) → length (printed s) ≤ pageSize
@@ -70,7 +61,7 @@ printed-fits s = by-answer (sheetRead s) refl
   where
     by-answer : (v : SheetRead) → sheetRead s ≡ v → length (printed s) ≤ pageSize
     by-answer Accepted e =
-        omega (arith, ap length (printed-accepted s e), length-append header (linesOf s (readingsIn s)), length-lines (λ k. lineOf (readingOf s k)) 23 (readingsIn s) (λ k. length-line (readingOf s k)), accepted-short s e)
+        omega (arith, ap length (printed-accepted s e), length-append header (linesOf s (readingsIn s)), length-lines s (readingsIn s), accepted-short s e)
     by-answer (Refused why o) e = omega (arith, ap length (printed-refused s why o e), length-refusal (numberOf why) o)
 
 -- the place after the last byte lies in the page

@@ -87,7 +87,7 @@ unfolding readingOf
 whole-sound s k b w =
     let r = response-is s (17 * k + 8 + 3) (w .response) in
     let place : 17 * k + 13 ≡ 17 * k + 8 + 3 + 2 = omega arith in
-    record { position = w .position; available = rw place (r .mask); count = omega (arith, b (17 * k + 15), b (17 * k + 15 + 1)) }
+    record { position = w .position; masks = (b (17 * k + 7), b (17 * k + 13)); available = rw place (r .mask); count = omega (arith, b (17 * k + 15), b (17 * k + 15 + 1)) }
 
 -- ---- readings that were written
 stands-byte : (s : List ℕ) (at : ℕ) (r : CountReading) → Stands s at r → (i p : ℕ) → p ≡ at + i → i < 17 → getD s p 0 ≡ getD (readingBytes r) i 0

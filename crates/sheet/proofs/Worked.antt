@@ -9,13 +9,14 @@ use native.Mathlib.Omega.{arith}
 use Rattle.identifiers.specs.Choice.{both, either, pick}
 use Rattle.identifiers.proofs.LawsBelow.{list-none, list-suc}
 use Rattle.identifiers.specs.Refusals.{refusal}
+use Rattle.text.specs.Digits.{decimalIn, hexDigit, hex}
 use Rattle.server.specs.Mask.{soundMask}
 use Rattle.server.proofs.LawsMask.{mask-rule}
 use Rattle.sheet.specs.Basis.{basisOf}
 use Rattle.sheet.specs.Fields.{cutShort, sizeOf, wrongForm, soundPosition, soundResponse, soundContent, fieldRead}
 use Rattle.sheet.specs.Sheets.{fieldOffset, fieldTag, fieldAt, fieldsBegun, orNext, firstRefused, sheetRead}
 use Rattle.sheet.specs.Readings.{readingsIn, readingOf}
-use Rattle.sheet.specs.Text.{decimalIn, hexDigit, hex, header, wordOf, lineOf, refusalLine}
+use Rattle.sheet.specs.Text.{header, wordOf, numbersOf, lineOf, refusalLine}
 use Rattle.sheet.specs.Printed.{printedAs, printed}
 use Rattle.sheet.specs.declared.sheet_read.SheetRead.the-variants.{Refused}
 
@@ -51,7 +52,7 @@ sound-4B : soundMask 0x4B ≡ true
 sound-4B = mask-rule 0x4B .1 (refl, ((λ (e : _≡_ {A = ℕ} 2 4). omega arith), inl refl))
 
 pub worked : Worked
-unfolding both either pick basisOf cutShort sizeOf wrongForm soundPosition soundResponse soundContent fieldRead fieldOffset fieldTag fieldAt fieldsBegun orNext firstRefused sheetRead readingsIn readingOf decimalIn hexDigit hex wordOf lineOf refusalLine printedAs printed
+unfolding both either pick basisOf cutShort sizeOf wrongForm soundPosition soundResponse soundContent fieldRead fieldOffset fieldTag fieldAt fieldsBegun orNext firstRefused sheetRead readingsIn readingOf decimalIn hexDigit hex wordOf numbersOf lineOf refusalLine printedAs printed
 worked = record {
   example = simp (sound-7F, sound-4B) (rw (list-suc, list-suc, list-none));
   empty = rw list-none;

@@ -42,6 +42,7 @@ sheetOf (r ∷ rs) = readingBytes r ++ sheetOf rs
 -- the contents that a sheet may have
 pub record Sound (r : CountReading) : Type 0 where
   pub position : soundPosition (r .position) ≡ true
+  pub masks : (r .mask < 256) × (r .available < 256)
   pub available : soundMask (r .available) ≡ true
   pub count : r .count < 65536
 

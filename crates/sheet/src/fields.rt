@@ -1,7 +1,7 @@
 // One field of a reading: cut short, then wrong tag or length, then content.
 ghost use mathlib.Core.Path.{_≡_};
 ghost use mathlib.Core.Bool.{false};
-ghost use Prim.Native.Nat.{_+_, _*_, _≤_};
+ghost use Prim.Native.Nat.{_+_, _*_, _≤_, _<_};
 ghost use lib.ListN.{length};
 ghost use Rattle.sheet.specs.Fields.{bytesLeft, cutShort, sizeOf, wrongForm, soundPosition, soundResponse, soundContent, fieldRead};
 use crate::sheet_read::SheetRead;
@@ -9,7 +9,7 @@ use identifiers::Refusal;
 
 // Two bytes, high first.
 pub fn pair(high: u8, low: u8) -> usize
-    ensures { λ r. ⌜ r ≡ high * 256 + low ⌝ }
+    ensures { λ r. ⌜ (r ≡ high * 256 + low) × (r < 65536) ⌝ }
 {
     (high as usize) * 256 + low as usize
 }

@@ -1,4 +1,5 @@
 // The table, or the one line of a refusal, printed into a lent page.
+ghost use mathlib.Core.Path.{_≡_};
 ghost use Prim.Native.Nat.{_+_, _*_, _≤_};
 ghost use lib.ListN.{length};
 ghost use Rattle.identifiers.specs.Bytes.{Puts};
@@ -10,13 +11,23 @@ use crate::reader::read_sheet;
 use crate::reading::READING_SIZE;
 use crate::reading::reading_of;
 use crate::sheet_read::SheetRead;
-use crate::text::PAGE;
-use crate::text::put;
-use crate::text::put_decimal;
 use identifiers::Refusal;
+use text::put;
+use text::put_decimal;
 
-fn put_lines(page: &mut [u8; PAGE], start: usize, input: &[u8], readings: usize) -> usize
-    requires { ⌜ (17 * readings ≤ length (now input)) × (start + 23 * readings ≤ pageSize) ⌝ }
+// The header, and for each of 3,855 readings a line of at most 23 bytes: two numbers of up to five digits, two of two, a
+// word of four letters, four blanks and a newline.
+pub const PAGE: usize = 88701;
+
+// A page has as many bytes as its type says. That is told of an array by value alone; the compiler leaves the copy out.
+fn measured(page: [u8; PAGE]) -> usize
+    ensures { λ r. ⌜ (r ≡ pageSize) × (length page ≡ pageSize) ⌝ }
+{
+    PAGE
+}
+
+fn put_lines(page: &mut [u8], start: usize, input: &[u8], readings: usize) -> usize
+    requires { ⌜ (17 * readings ≤ length (now input)) × (start + 23 * readings ≤ length (now page)) ⌝ }
     ensures { λ r. ⌜ Puts (now (page .entry)) start (linesOf (now (input .entry)) readings) r (now (page .exit)) ⌝ }
 {
     let mut at = start;
@@ -28,13 +39,14 @@ fn put_lines(page: &mut [u8; PAGE], start: usize, input: &[u8], readings: usize)
     at
 }
 
-fn put_refusal(page: &mut [u8; PAGE], why: Refusal, offset: usize) -> usize
+fn put_refusal(page: &mut [u8], why: Refusal, offset: usize) -> usize
+    requires { ⌜ (23 ≤ length (now page)) × (offset ≤ 65535) ⌝ }
     ensures { λ r. ⌜ Puts (now (page .entry)) 0 (refusalLine (numberOf why) offset) r (now (page .exit)) ⌝ }
 {
     let a = put(page, 0, b"refused ");
-    let b = put_decimal(page, a, why.number() as usize, 5);
+    let b = put_decimal(page, a, why.number() as usize);
     let c = put(page, b, b" at ");
-    let d = put_decimal(page, c, offset, 5);
+    let d = put_decimal(page, c, offset);
     put(page, d, b"\n")
 }
 
@@ -42,6 +54,7 @@ fn put_refusal(page: &mut [u8; PAGE], why: Refusal, offset: usize) -> usize
 pub fn print(input: &[u8], page: &mut [u8; PAGE]) -> usize
     ensures { λ r. ⌜ Puts (now (page .entry)) 0 (printed (now (input .entry))) r (now (page .exit)) ⌝ }
 {
+    measured(*page);
     match read_sheet(input) {
         SheetRead::Accepted => {
             let at = put(page, 0, b"position mask available count basis\n");

@@ -1,6 +1,6 @@
 // One reading of an accepted input.
 ghost use mathlib.Core.Path.{_≡_};
-ghost use Prim.Native.Nat.{_+_, _*_, _≤_};
+ghost use Prim.Native.Nat.{_+_, _*_, _≤_, _<_};
 ghost use lib.ListN.{length};
 ghost use Rattle.sheet.specs.Readings.{readingOf};
 use crate::fields::pair;
@@ -18,7 +18,7 @@ pub struct CountReading {
 // What stands in a reading, counted from 0.
 pub fn reading_of(input: &[u8], number: usize) -> CountReading
     requires { ⌜ 17 * number + 17 ≤ length (now input) ⌝ }
-    ensures { λ r. ⌜ r ≡ readingOf (now (input .entry)) number ⌝ }
+    ensures { λ r. ⌜ (r ≡ readingOf (now (input .entry)) number) × (r .count < 65536) ⌝ }
 {
     let at = READING_SIZE * number;
     let high = at + 15;

@@ -44,6 +44,9 @@ module _ (buffer : List ℕ) (at count : ℕ) where
       by-room false e = let l : length buffer < at + count = leb-false _ _ e in lt-leb at (length buffer - count) (omega arith)
 
 -- ---- put where it fits
+pub room-behind : (k n : ℕ) {before bytes after : List ℕ} {at end : ℕ} → length bytes ≤ k → at + (k + n) ≤ length before → Puts before at bytes end after → end + n ≤ length after
+room-behind k n l h p = omega (arith, p .ends, keeps-length p)
+
 module _ {before text after : List ℕ} {at end : ℕ} where
   pub put-fits : at + length text ≤ length before → PutsIfFits before at text end after → Puts before at text end after
   put-fits h p = let f = has-room before at (length text) h in record { ends = p .ends ∙ pick-true _ _ f; holds = p .holds ∙ pick-true _ _ f }
@@ -56,7 +59,7 @@ module _ {before text after : List ℕ} {at end : ℕ} where
 
   -- a text of at most k bytes, where there is room for k and n more: it was put, and there is room for n behind it
   pub put-on : (k n : ℕ) → length text ≤ k → at + (k + n) ≤ length before → PutsIfFits before at text end after → Puts before at text end after × (end + n ≤ length after)
-  put-on k n l h p = let q = put-fits (omega arith) p in (q, omega (arith, q .ends, keeps-length q))
+  put-on k n l h p = let q = put-fits (omega arith) p in (q, room-behind k n l h q)
 
   pub if-fits-length : PutsIfFits before at text end after → length after ≡ length before
   if-fits-length p =

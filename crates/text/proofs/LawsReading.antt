@@ -56,15 +56,15 @@ value-grows base n [] h = omega arith
 value-grows base n (b ∷ text) h = omega (arith, mul-le-mul-left n h, value-grows base (n * base + digitValue b) text h)
 
 -- i digits are passed, and they say the number: what the text says is what those to come say behind it
-pub record Reading (base : ℕ) (text : List ℕ) (number i : ℕ) : Type 0 where
+pub record ReadSoFar (base : ℕ) (text : List ℕ) (number i : ℕ) : Type 0 where
   pub says : valueFrom base 0 text ≡ valueFrom base number (drop i text)
   pub digits : allDigits base text ≡ allDigits base (drop i text)
 
-pub reading-first : (base : ℕ) (text : List ℕ) → Reading base text 0 0
+pub reading-first : (base : ℕ) (text : List ℕ) → ReadSoFar base text 0 0
 reading-first base text = record { says = refl; digits = refl }
 
-module _ {base : ℕ} {text : List ℕ} {number i digit : ℕ} (r : Reading base text number i) (l : i < length text) (e : digit ≡ digitValue (getD text i 0)) where
-  pub reading-more : digit < base → Reading base text (number * base + digit) (i + 1)
+module _ {base : ℕ} {text : List ℕ} {number i digit : ℕ} (r : ReadSoFar base text number i) (l : i < length text) (e : digit ≡ digitValue (getD text i 0)) where
+  pub reading-more : digit < base → ReadSoFar base text (number * base + digit) (i + 1)
   unfolding valueFrom allDigits both
   reading-more h =
       record {
@@ -76,7 +76,7 @@ module _ {base : ℕ} {text : List ℕ} {number i digit : ℕ} (r : Reading base
   unfolding allDigits
   reading-stop places h = other-byte base places text (r .digits ∙ rw (drop-cons text i 0 l) (sym (stop _ (no-digit base (getD text i 0) e h))))
 
-module _ {base : ℕ} {text : List ℕ} {number i : ℕ} (r : Reading base text number i) where
+module _ {base : ℕ} {text : List ℕ} {number i : ℕ} (r : ReadSoFar base text number i) where
   pub reading-large : (places : ℕ) → 1 ≤ base → 2 ^ 32 ≤ number → NoNumber ≡ digitsRead base places text
   reading-large places b h = too-large base places text (omega (arith, r .says, value-grows base number (drop i text) b))
 

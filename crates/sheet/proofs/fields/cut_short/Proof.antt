@@ -11,7 +11,7 @@ returns-2 : tie.Need-returns-2
 returns-2 c =
     let at1 = c .before .before .before in
     let at2 = at1 .before in
-    rw ((at2 .bytes-left .ensures), (c .pair .ensures)) (cut-content _ _ (rw (at2 .bytes-left .ensures) at (at1 .if1 .left)))
+    rw ((at2 .bytes-left .ensures), (c .pair .ensures .0)) (cut-content _ _ (rw (at2 .bytes-left .ensures) at (at1 .if1 .left)))
 
 pub cut-short-spec : {M : Type 1} → statement M
 cut-short-spec =

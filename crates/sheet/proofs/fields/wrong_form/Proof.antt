@@ -40,7 +40,7 @@ returns-2 : tie.Need-returns-2
 unfolding wrongForm
 returns-2 c =
     let at-if1 = c .before .before .before .before in
-    rw ((c .before .pair .ensures), (c .size-of .ensures)) (right-decides (ap not (eq-eqb _ _ (at-if1 .if1 .left))) refl)
+    rw ((c .before .pair .ensures .0), (c .size-of .ensures)) (right-decides (ap not (eq-eqb _ _ (at-if1 .if1 .left))) refl)
 
 pub wrong-form-spec : {M : Type 1} → statement M
 wrong-form-spec =

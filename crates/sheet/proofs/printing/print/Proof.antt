@@ -1,13 +1,13 @@
 -- `print` meets its contract: the header and the lines of an accepted input, or the line of its refusal.
 use mathlib.Core.Path.{sym, _∙_}
-use Prim.Native.Nat.{_≤_}
-use lib.ListN.{length}
-use borrow.Author.Needs.{needs}
 use native.Mathlib.Omega.{arith}
-use Rattle.identifiers.proofs.LawsBytes.{_▸_}
-use Rattle.sheet.proofs.LawsSheets.{accepted-short}
-use Rattle.sheet.proofs.LawsPrinted.{printed-accepted, printed-refused}
+use borrow.Author.Needs.{needs}
+use Rattle.identifiers.proofs.LawsBytes.{keeps-length, _▸_}
+use Rattle.text.proofs.LawsPutting.{put-fits}
 use Rattle.sheet.specs.Readings.{readingsIn}
+use Rattle.sheet.proofs.LawsSheets.{accepted-short}
+use Rattle.sheet.proofs.LawsEarliest.{refused-small}
+use Rattle.sheet.proofs.LawsPrinted.{printed-accepted, printed-refused}
 use Rattle.sheet.proofs.printing.print.Statement.{statement}
 use Rattle.sheet.proofs.printing.print.Tie as tie
 
@@ -16,8 +16,16 @@ put-lines-requires c κs =
     let at1 = c .before in
     let at2 = at1 .before .before .before in
     let at3 = at2 .before .before in
-    let at4 = at3 .before .before in
-    let h : length ((at4 .args .input) .now) ≤ 65535 = accepted-short _ (sym (at3 .read-sheet .ensures) ∙ (at2 .enum-told .given .1)) in (omega arith, omega (arith, (at1 .put .ensures .ends)))
+    let size = at3 .before .measured .ensures .1 in
+    let header = put-fits (omega (arith, size)) (at1 .put .ensures) in
+    let short = accepted-short _ (sym (at3 .read-sheet .ensures) ∙ (at2 .enum-told .given .1)) in
+    (omega (arith, short), omega (arith, short, size, header .ends, keeps-length header))
+
+put-refusal-requires : tie.Need-put-refusal-requires
+put-refusal-requires c κs =
+    let at1 = c .before .before in
+    let at2 = at1 .before .before in
+    (omega (arith, at2 .before .measured .ensures .1), refused-small _ _ _ (sym (at2 .read-sheet .ensures) ∙ (at1 .why .given .1)) .place)
 
 returns : tie.Need-returns
 unfolding readingsIn
@@ -25,7 +33,8 @@ returns c =
     let at1 = c .before .before in
     let at2 = at1 .before .before .before in
     let at3 = at2 .before .before in
-    rw (printed-accepted _ (sym (at3 .read-sheet .ensures) ∙ (at2 .enum-told .given .1))) ((at1 .put .ensures) ▸ (c .put-lines .ensures))
+    let header = put-fits (omega (arith, at3 .before .measured .ensures .1)) (at1 .put .ensures) in
+    rw (printed-accepted _ (sym (at3 .read-sheet .ensures) ∙ (at2 .enum-told .given .1))) (header ▸ c .put-lines .ensures)
 
 returns-2 : tie.Need-returns-2
 returns-2 c =
@@ -38,11 +47,12 @@ print-spec =
     tie.close
     (tie.spec
     (λ c κs. tt)
+    (λ c κs. tt)
     (λ c. search needs)
-    (λ c. search needs)
-    (λ c κs. search needs)
-    put-lines-requires
     (λ c. search needs)
     (λ c κs. tt)
+    put-lines-requires
+    (λ c. search needs)
+    put-refusal-requires
     returns
     returns-2)

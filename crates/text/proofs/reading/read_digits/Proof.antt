@@ -4,12 +4,12 @@ use native.Mathlib.Nat.{mul-le-mul-left}
 use native.Mathlib.Omega.{arith}
 use borrow.Author.Needs.{needs}
 use lib.ListN.{length}
-use Rattle.text.proofs.LawsReading.{Reading, reading-first, reading-more, reading-stop, reading-large, reading-done, other-length}
+use Rattle.text.proofs.LawsReading.{ReadSoFar, reading-first, reading-more, reading-stop, reading-large, reading-done, other-length}
 use Rattle.text.proofs.reading.read_digits.Statement.{statement}
 use Rattle.text.proofs.reading.read_digits.Tie as tie
 
 abbrev Inv-loop : tie.InvT-loop
-Inv-loop text base places number₀ i₀ number i = (i ≤ length text) × (number < 2 ^ 32) × Reading base text number i
+Inv-loop text base places number₀ i₀ number i = (i ≤ length text) × (number < 2 ^ 32) × ReadSoFar base text number i
 
 abbrev μ-loop : tie.MeasureT-loop
 μ-loop text base places number₀ i₀ number i = length text - i
