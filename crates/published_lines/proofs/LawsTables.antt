@@ -1,17 +1,20 @@
--- Laws of the tables: a loop that looks for a mark, the part behind one mark more, and a loop that reads digits.
+-- Laws of the tables: a loop that looks for a mark, the part behind one mark more, and the number that a word says.
 use mathlib.Core.Path.{_≡_, refl, sym, ap, _∙_}
-use mathlib.Core.Bool.{Bool, true, false}
-use mathlib.Core.List.{List, [], _∷_}
-use Prim.Native.Nat.{ℕ, zero, suc, _+_, _-_, _*_, _%_, _^_, _<_, _≤_}
-use native.Mathlib.Nat.{zero-add, mul-le-mul}
+use mathlib.Core.Bool.{true, false}
+use mathlib.Core.List.{List, []}
+use Prim.Native.Nat.{ℕ, zero, suc, _+_, _-_, _<_, _≤_}
+use native.Mathlib.Nat.{zero-add}
 use native.Mathlib.Numerals.{add-one}
 use native.Mathlib.Omega.{arith}
+use borrow.Author.Tests.{eq-eqb, ne-eqb}
 use lib.Dec.{eqb}
 use lib.ListN.{length, getD, take, drop, drop-of-length-le, length-drop}
 use lib.Seq.{drop-cons, take-nil, drop-nil, take-all}
 use Rattle.identifiers.specs.Choice.{pick}
 use Rattle.identifiers.proofs.LawsChoice.{pick-true, pick-false}
-use Rattle.published_lines.specs.Tables.{reachOf, partOf, digits, valueBelow, valueOf}
+use Rattle.text.specs.Reading.{digitsRead}
+use Rattle.text.specs.declared.reading.DigitsRead.{DigitsRead}
+use Rattle.published_lines.specs.Tables.{reachOf, partOf, numberOf, valueOf}
 
 -- no mark stands among the first i bytes
 pub record Passed (mark : ℕ) (text : List ℕ) (i : ℕ) : Type 0 where
@@ -37,16 +40,6 @@ pub all-passed : (mark : ℕ) (text : List ℕ) (i : ℕ) → length text ≤ i 
 unfolding reachOf
 all-passed mark text i l p = let here : reachOf mark (drop i text) ≡ 0 = ap (reachOf mark) (drop-of-length-le text l) in omega (arith, p .goes-on, here)
 
-one-more : (b : Bool) (x n : ℕ) → x ≤ n → pick b 0 (x + 1) ≤ suc n
-unfolding pick
-one-more true x n l = omega arith
-one-more false x n l = omega arith
-
-pub reach-le : (mark : ℕ) (text : List ℕ) → reachOf mark text ≤ length text
-unfolding reachOf
-reach-le mark [] = omega arith
-reach-le mark (b ∷ text) = one-more (eqb b mark) (reachOf mark text) (length text) (reach-le mark text)
-
 pub first-part : (mark k : ℕ) (text : List ℕ) → k ≡ 0 → partOf mark k text ≡ take (reachOf mark text) text
 unfolding partOf
 first-part mark k text e = rw e
@@ -71,21 +64,12 @@ no-part mark k text n l =
     let none : drop (reachOf mark text + 1) text ≡ [] = drop-of-length-le text {i = reachOf mark text + 1} (omega arith) in
     next-part mark k text n ∙ ap (partOf mark (k - 1)) none ∙ nothing mark (k - 1)
 
-pub no-digit : (base : ℕ) (text : List ℕ) → valueBelow base text 0 ≡ 0
-unfolding valueBelow
-no-digit base text = refl
+-- a part of a text is read as a word: what was read in hexadecimal or in decimal is what it says
+module _ {base r : ℕ} {word part : List ℕ} {read : DigitsRead} (w : word ≡ part) (n : r ≡ numberOf read) where
+  pub says-hex : base ≡ 16 → read ≡ digitsRead 16 (length word) word → r ≡ valueOf base part
+  unfolding valueOf pick
+  says-hex e d = n ∙ rw (d, w, eq-eqb _ _ e)
 
-pub one-digit : (base : ℕ) {total digit : ℕ} (text : List ℕ) (n : ℕ) → total ≡ valueBelow base text n → digit ≡ reachOf (getD text n 0) digits
-    → (total * base + digit) % 2 ^ 32 ≡ valueBelow base text (n + 1)
-unfolding valueBelow
-one-digit base text n t d = rw (add-one n, t, d)
-
-pub whole-word : (base : ℕ) (text : List ℕ) {total n : ℕ} → length text ≡ n → total ≡ valueBelow base text n → total ≡ valueOf base text
-unfolding valueOf
-whole-word base text e t = rw e t
-
-pub product-fits : {total : ℕ} (base : ℕ) → total ≤ 4294967295 → base ≤ 255 → total * base ≤ 1095216660225
-product-fits base t b = mul-le-mul t b
-
-pub digit-le : (b : ℕ) {digit : ℕ} → digit ≡ reachOf b digits → digit ≤ 16
-digit-le b e = rw e (reach-le b digits)
+  pub says-decimal : (base ≡ 16 → ⊥) → read ≡ digitsRead 10 (length word) word → r ≡ valueOf base part
+  unfolding valueOf pick
+  says-decimal e d = n ∙ rw (d, w, ne-eqb _ _ e)

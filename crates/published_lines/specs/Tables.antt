@@ -1,10 +1,13 @@
--- What stands in a table of cases: parts of a text between marks, and numbers in digits.
+-- What stands in a table of cases: parts of a text between marks, and the numbers that they say.
 use mathlib.Core.List.{List, [], _∷_}
-use Prim.Native.Nat.{ℕ, zero, suc, _+_, _*_, _%_, _^_}
+use Prim.Native.Nat.{ℕ, zero, suc, _+_}
 use lib.Dec.{eqb}
 use lib.ListN.{length, getD, take, drop}
 use Rattle.identifiers.specs.Choice.{pick}
 use Rattle.identifiers.specs.Below.{countBelow}
+use Rattle.text.specs.Reading.{digitsRead}
+use Rattle.text.specs.declared.reading.DigitsRead.{DigitsRead}
+use Rattle.text.specs.declared.reading.DigitsRead.the-variants.{Number, NoNumber}
 
 -- the place of the first mark in a text, or the text's length where it has none
 unfoldable pub reachOf : ℕ → List ℕ → ℕ
@@ -20,15 +23,11 @@ unfoldable pub partOf : ℕ → ℕ → List ℕ → List ℕ
 partOf mark zero text = take (reachOf mark text) text
 partOf mark (suc k) text = partOf mark k (drop (reachOf mark text + 1) text)
 
--- "0123456789ABCDEF"
-abbrev pub digits : List ℕ
-digits = 48 ∷ 49 ∷ 50 ∷ 51 ∷ 52 ∷ 53 ∷ 54 ∷ 55 ∷ 56 ∷ 57 ∷ 65 ∷ 66 ∷ 67 ∷ 68 ∷ 69 ∷ 70 ∷ []
+-- the number that was read, 0 where there is none
+abbrev pub numberOf : DigitsRead → ℕ
+numberOf (Number n) = n
+numberOf NoNumber = 0
 
--- the number that the first n bytes of a text are to a base, modulo 2^32; a byte that is no digit counts 16
-unfoldable pub valueBelow : ℕ → List ℕ → ℕ → ℕ
-valueBelow base text zero = 0
-valueBelow base text (suc n) = (valueBelow base text n * base + reachOf (getD text n 0) digits) % 2 ^ 32
-
--- the number that a whole text is
+-- the number that a whole word says to a base, 0 where it says none below 2^32: to base 16 in hexadecimal, to every other in decimal
 unfoldable pub valueOf : ℕ → List ℕ → ℕ
-valueOf base text = valueBelow base text (length text)
+valueOf base word = numberOf (digitsRead (pick (eqb base 16) 16 10) (length word) word)

@@ -4,10 +4,9 @@ ghost use mathlib.Core.Bool.{not};
 ghost use Prim.Native.Nat.{_%_};
 ghost use lib.Dec.{eqb};
 ghost use lib.ListN.{getD, take};
-ghost use Rattle.published_lines.specs.Tables.{reachOf, marksOf, partOf, valueOf};
+ghost use Rattle.published_lines.specs.Tables.{reachOf, marksOf, partOf, numberOf, valueOf};
 use libc::STDOUT_FILENO;
-
-const DIGITS: [u8; 16] = *b"0123456789ABCDEF";
+use text::DigitsRead;
 
 pub fn say(text: &[u8]) {
     io::write_all(STDOUT_FILENO, text);
@@ -21,10 +20,10 @@ pub fn say_number(words: &[u8], number: usize) {
 
 // Words, and a byte behind them in two digits.
 pub fn say_byte(words: &[u8], byte: u8) {
-    let high = (byte / 16) as usize;
-    let low = (byte % 16) as usize;
+    let mut digits = [0u8; 2];
+    text::put_hex(&mut digits, 0, byte);
     say(words);
-    say(&[DIGITS[high], DIGITS[low]]);
+    say(&digits);
 }
 
 // A number of 32 bits in eight digits.
@@ -136,19 +135,25 @@ pub fn say_case(line: &[u8], case: &[u8]) {
     }
 }
 
-// A word of a case as a number to a base.
+// The number that was read, or 0 where there is none.
+fn number(read: DigitsRead) -> u32
+    ensures { λ r. ⌜ r ≡ numberOf read ⌝ }
+{
+    match read {
+        DigitsRead::Number(said) => said,
+        DigitsRead::NoNumber => 0,
+    }
+}
+
+// A word of a case as a number: to base 16 in hexadecimal, to every other in decimal.
 pub fn value(case: &[u8], k: usize, base: u8) -> u32
     ensures { λ r. ⌜ r ≡ valueOf base (partOf 59 k (now (case .entry))) ⌝ }
 {
     let word = part(case, b';', k);
-    let mut total: u32 = 0;
-    let mut i = 0;
-    while i < word.len() {
-        let digit = reach(&DIGITS, word[i]);
-        total = ((total as u64 * base as u64 + digit as u64) % 4294967296) as u32;
-        i += 1;
+    if base == 16 {
+        return number(text::read_hex(word, word.len()));
     }
-    total
+    number(text::read_decimal(word, word.len()))
 }
 
 pub fn byte(case: &[u8], k: usize, base: u8) -> u8
