@@ -1,7 +1,7 @@
 # Compiles C against the archive and runs it, for the scripts that source this from the project's root.
 #
 #     compiled PROGRAM FLAGS.. FILES..    writes PROGRAM
-#     running PROGRAM ARGUMENTS..         runs it
+#     running PROGRAM ARGUMENTS..         runs it, behind the words of `runner`
 #
 # The archive is for x86-64. There the machine's own `cc` compiles; elsewhere, and where KIT=1 is set, the kit's clang does,
 # with the C library that the kit brings, and on another processor the kit's emulator runs the program.
@@ -41,14 +41,11 @@ compiled() {
         "$library/libc.so.6" "$library/libc_nonshared.a" "$library/crtendS.o" "$library/crtn.o"
 }
 
-running() {
-    local program=$1
-    shift
-    if [ "${KIT:-0}" != 1 ]; then
-        "$program" "$@"
-    elif [ -x "$tools/bin/qemu-x86_64" ]; then
-        "$tools/bin/qemu-x86_64" "$library/ld-linux-x86-64.so.2" --library-path "$library" "$program" "$@"
-    else
-        "$library/ld-linux-x86-64.so.2" --library-path "$library" "$program" "$@"
-    fi
-}
+# What stands in front of a program that is run.
+runner=()
+if [ "${KIT:-0}" = 1 ]; then
+    runner=("$library/ld-linux-x86-64.so.2" --library-path "$library")
+    if [ -x "$tools/bin/qemu-x86_64" ]; then runner=("$tools/bin/qemu-x86_64" "${runner[@]}"); fi
+fi
+
+running() { "${runner[@]}" "$@"; }

@@ -14,7 +14,7 @@ use Rattle.identifiers.specs.Choice.{pick}
 use Rattle.identifiers.proofs.LawsChoice.{pick-true, pick-false}
 use Rattle.text.specs.Reading.{digitsRead}
 use Rattle.text.specs.declared.reading.DigitsRead.{DigitsRead}
-use Rattle.published_lines.specs.Tables.{reachOf, partOf, numberOf, valueOf}
+use Rattle.published_lines.specs.Tables.{reachOf, partOf, numberOrZero, valueOf}
 
 -- no mark stands among the first i bytes
 pub record Passed (mark : ℕ) (text : List ℕ) (i : ℕ) : Type 0 where
@@ -65,7 +65,7 @@ no-part mark k text n l =
     next-part mark k text n ∙ ap (partOf mark (k - 1)) none ∙ nothing mark (k - 1)
 
 -- a part of a text is read as a word: what was read in hexadecimal or in decimal is what it says
-module _ {base r : ℕ} {word part : List ℕ} {read : DigitsRead} (w : word ≡ part) (n : r ≡ numberOf read) where
+module _ {base r : ℕ} {word part : List ℕ} {read : DigitsRead} (w : word ≡ part) (n : r ≡ numberOrZero read) where
   pub says-hex : base ≡ 16 → read ≡ digitsRead 16 (length word) word → r ≡ valueOf base part
   unfolding valueOf pick
   says-hex e d = n ∙ rw (d, w, eq-eqb _ _ e)

@@ -24,10 +24,10 @@ partOf mark zero text = take (reachOf mark text) text
 partOf mark (suc k) text = partOf mark k (drop (reachOf mark text + 1) text)
 
 -- the number that was read, 0 where there is none
-abbrev pub numberOf : DigitsRead → ℕ
-numberOf (Number n) = n
-numberOf NoNumber = 0
+abbrev pub numberOrZero : DigitsRead → ℕ
+numberOrZero (Number n) = n
+numberOrZero NoNumber = 0
 
 -- the number that a whole word says to a base, 0 where it says none below 2^32: to base 16 in hexadecimal, to every other in decimal
 unfoldable pub valueOf : ℕ → List ℕ → ℕ
-valueOf base word = numberOf (digitsRead (pick (eqb base 16) 16 10) (length word) word)
+valueOf base word = numberOrZero (digitsRead (pick (eqb base 16) 16 10) (length word) word)

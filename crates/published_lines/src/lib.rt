@@ -4,7 +4,7 @@ ghost use mathlib.Core.Bool.{not};
 ghost use Prim.Native.Nat.{_%_};
 ghost use lib.Dec.{eqb};
 ghost use lib.ListN.{getD, take};
-ghost use Rattle.published_lines.specs.Tables.{reachOf, marksOf, partOf, numberOf, valueOf};
+ghost use Rattle.published_lines.specs.Tables.{reachOf, marksOf, partOf, numberOrZero, valueOf};
 use libc::STDOUT_FILENO;
 use text::DigitsRead;
 
@@ -136,8 +136,8 @@ pub fn say_case(line: &[u8], case: &[u8]) {
 }
 
 // The number that was read, or 0 where there is none.
-fn number(read: DigitsRead) -> u32
-    ensures { λ r. ⌜ r ≡ numberOf read ⌝ }
+fn number_or_zero(read: DigitsRead) -> u32
+    ensures { λ r. ⌜ r ≡ numberOrZero read ⌝ }
 {
     match read {
         DigitsRead::Number(said) => said,
@@ -151,9 +151,9 @@ pub fn value(case: &[u8], k: usize, base: u8) -> u32
 {
     let word = part(case, b';', k);
     if base == 16 {
-        return number(text::read_hex(word, word.len()));
+        return number_or_zero(text::read_hex(word, word.len()));
     }
-    number(text::read_decimal(word, word.len()))
+    number_or_zero(text::read_decimal(word, word.len()))
 }
 
 pub fn byte(case: &[u8], k: usize, base: u8) -> u8
