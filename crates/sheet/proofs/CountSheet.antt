@@ -2,7 +2,7 @@
 -- statement can be read without its proof. The basis is in LawsBasis, the worked examples are in Worked.
 use mathlib.Core.Path.{_≡_, refl, sym, ap, _∙_}
 use mathlib.Core.Bool.{Bool, true, false}
-use mathlib.Core.List.{List, _++_}
+use mathlib.Core.List.{List, _++_, append-assoc}
 use Prim.Native.Nat.{ℕ, _+_, _*_, _≤_, _<_}
 use native.Mathlib.Omega.{arith}
 use borrow.Author.Tests.{ltb-true, ltb-false}
@@ -64,7 +64,7 @@ pub record LineSays (r : CountReading) : Type 0 where
 pub line-says : (r : CountReading) → Sound r → LineSays r
 unfolding lineOf numbersOf
 line-says r h =
-    record { columns = refl; position = decimal-in-says 5 (r .position) (omega (arith, position-range (r .position) (h .position) .1)); mask = hex-says (r .mask) (h .masks .0); available = hex-says (r .available) (h .masks .1); count = decimal-in-says 5 (r .count) (omega (arith, h .count)) }
+    record { columns = simp append-assoc; position = decimal-in-says 5 (r .position) (omega (arith, position-range (r .position) (h .position) .1)); mask = hex-says (r .mask) (h .masks .0); available = hex-says (r .available) (h .masks .1); count = decimal-in-says 5 (r .count) (omega (arith, h .count)) }
 
 -- ---- readings written one after the other are accepted, and read back
 pub record WrittenSheet (rs : List CountReading) : Type 0 where

@@ -24,7 +24,7 @@ wordOf Part = 112 ∷ 97 ∷ 114 ∷ 116 ∷ []
 
 -- the numbers of a reading, each with a blank behind it: "columns decimal, hex, hex, decimal"
 unfoldable pub numbersOf : CountReading → List ℕ
-numbersOf r = decimalIn 5 (r .position) ++ blank ++ hex (r .mask) ++ blank ++ hex (r .available) ++ blank ++ decimalIn 5 (r .count) ++ blank
+numbersOf r = (decimalIn 5 (r .position) ++ blank) ++ (hex (r .mask) ++ blank) ++ (hex (r .available) ++ blank) ++ (decimalIn 5 (r .count) ++ blank)
 
 -- a reading's line: its numbers, and the "word"
 unfoldable pub lineOf : CountReading → List ℕ

@@ -1,7 +1,9 @@
 // The line of one reading.
+ghost use mathlib.Core.List.{_++_};
 ghost use Prim.Native.Nat.{_+_, _≤_, _<_};
 ghost use lib.ListN.{length};
 ghost use Rattle.identifiers.specs.Bytes.{Puts};
+ghost use Rattle.text.specs.Digits.{decimalIn, hex, blank};
 ghost use Rattle.sheet.specs.Text.{wordOf, numbersOf, lineOf};
 use crate::basis::Basis;
 use crate::basis::basis_of;
@@ -21,18 +23,30 @@ fn put_basis(page: &mut [u8], at: usize, basis: Basis) -> usize
     }
 }
 
+// A number and a blank, where there is room for six bytes.
+fn put_number(page: &mut [u8], at: usize, number: usize) -> usize
+    ensures { λ r. ⌜ (at + 6 ≤ length (now (page .entry)) → number < 65536 → Puts (now (page .entry)) at (decimalIn 5 number ++ blank) r (now (page .exit))) ⌝ }
+{
+    let end = put_decimal(page, at, number);
+    put(page, end, b" ")
+}
+
+// A mask and a blank, where there is room for three bytes.
+fn put_mask(page: &mut [u8], at: usize, mask: u8) -> usize
+    ensures { λ r. ⌜ (at + 3 ≤ length (now (page .entry)) → Puts (now (page .entry)) at (hex mask ++ blank) r (now (page .exit))) ⌝ }
+{
+    let end = put_hex(page, at, mask);
+    put(page, end, b" ")
+}
+
 fn put_numbers(page: &mut [u8], at: usize, reading: CountReading) -> usize
     requires { ⌜ (at + 18 ≤ length (now page)) × (reading .count < 65536) ⌝ }
     ensures { λ r. ⌜ Puts (now (page .entry)) at (numbersOf reading) r (now (page .exit)) ⌝ }
 {
-    let a = put_decimal(page, at, reading.position as usize);
-    let b = put(page, a, b" ");
-    let c = put_hex(page, b, reading.mask);
-    let d = put(page, c, b" ");
-    let e = put_hex(page, d, reading.available);
-    let f = put(page, e, b" ");
-    let g = put_decimal(page, f, reading.count);
-    put(page, g, b" ")
+    let mask = put_number(page, at, reading.position as usize);
+    let available = put_mask(page, mask, reading.mask);
+    let count = put_mask(page, available, reading.available);
+    put_number(page, count, reading.count)
 }
 
 pub fn put_line(page: &mut [u8], at: usize, reading: CountReading) -> usize

@@ -3,7 +3,6 @@ ghost use mathlib.Core.Path.{_≡_};
 ghost use Prim.Native.Nat.{_+_, _*_, _≤_};
 ghost use lib.ListN.{length};
 ghost use Rattle.identifiers.specs.Bytes.{Puts};
-ghost use Rattle.identifiers.specs.Refusals.{numberOf};
 ghost use Rattle.sheet.specs.Text.{pageSize, refusalLine};
 ghost use Rattle.sheet.specs.Printed.{linesOf, printed};
 use crate::line::put_line;
@@ -11,7 +10,6 @@ use crate::reader::read_sheet;
 use crate::reading::READING_SIZE;
 use crate::reading::reading_of;
 use crate::sheet_read::SheetRead;
-use identifiers::Refusal;
 use text::put;
 use text::put_decimal;
 
@@ -39,12 +37,12 @@ fn put_lines(page: &mut [u8], start: usize, input: &[u8], readings: usize) -> us
     at
 }
 
-fn put_refusal(page: &mut [u8], why: Refusal, offset: usize) -> usize
+fn put_refusal(page: &mut [u8], number: u8, offset: usize) -> usize
     requires { ⌜ (23 ≤ length (now page)) × (offset ≤ 65535) ⌝ }
-    ensures { λ r. ⌜ Puts (now (page .entry)) 0 (refusalLine (numberOf why) offset) r (now (page .exit)) ⌝ }
+    ensures { λ r. ⌜ Puts (now (page .entry)) 0 (refusalLine number offset) r (now (page .exit)) ⌝ }
 {
     let a = put(page, 0, b"refused ");
-    let b = put_decimal(page, a, why.number() as usize);
+    let b = put_decimal(page, a, number as usize);
     let c = put(page, b, b" at ");
     let d = put_decimal(page, c, offset);
     put(page, d, b"\n")
@@ -60,6 +58,6 @@ pub fn print(input: &[u8], page: &mut [u8; PAGE]) -> usize
             let at = put(page, 0, b"position mask available count basis\n");
             put_lines(page, at, input, input.len() / READING_SIZE)
         }
-        SheetRead::Refused(why, offset) => put_refusal(page, why, offset),
+        SheetRead::Refused(why, offset) => put_refusal(page, why.number(), offset),
     }
 }

@@ -115,10 +115,13 @@ pub newlines-append : (xs ys : List ℕ) → newlines (xs ++ ys) ≡ newlines xs
 newlines-append [] ys = omega arith
 newlines-append (x ∷ xs) ys = omega (arith, newlines-append xs ys)
 
--- a byte above 10 ends no line
-pub no-newline : (b : ℕ) → 10 < b → newlines (b ∷ []) ≡ 0
+-- a byte other than 10 ends no line
+pub not-newline : (b : ℕ) → (b ≡ 10 → ⊥) → newlines (b ∷ []) ≡ 0
 unfolding pick
-no-newline b h = let n : b ≡ 10 → ⊥ = (λ e. omega arith) in rw (ne-eqb b 10 n)
+not-newline b h = rw (ne-eqb b 10 h)
+
+pub no-newline : (b : ℕ) → 10 < b → newlines (b ∷ []) ≡ 0
+no-newline b h = not-newline b (λ e. omega arith)
 
 pub one-newline : newlines newline ≡ 1
 unfolding pick

@@ -23,7 +23,7 @@ put-lines-requires c κs =
 
 put-refusal-requires : tie.Need-put-refusal-requires
 put-refusal-requires c κs =
-    let at1 = c .before .before in
+    let at1 = c .before .before .before in
     let at2 = at1 .before .before in
     (omega (arith, at2 .before .measured .ensures .1), refused-small _ _ _ (sym (at2 .read-sheet .ensures) ∙ (at1 .why .given .1)) .place)
 
@@ -38,9 +38,9 @@ returns c =
 
 returns-2 : tie.Need-returns-2
 returns-2 c =
-    let at1 = c .before .before .before in
+    let at1 = c .before .before .before .before in
     let at2 = at1 .before .before in
-    rw (printed-refused _ _ _ (sym (at2 .read-sheet .ensures) ∙ (at1 .why .given .1))) (c .put-refusal .ensures)
+    rw (printed-refused _ _ _ (sym (at2 .read-sheet .ensures) ∙ (at1 .why .given .1))) (rw (c .before .number .ensures) at (c .put-refusal .ensures))
 
 pub print-spec : {M : Type 1} → statement M
 print-spec =
@@ -53,6 +53,7 @@ print-spec =
     (λ c κs. tt)
     put-lines-requires
     (λ c. search needs)
+    (λ c κs. tt)
     put-refusal-requires
     returns
     returns-2)

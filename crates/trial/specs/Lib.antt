@@ -1,2 +1,2 @@
 -- The root of the program's definitions.
-pub mod Input
+pub mod Trial

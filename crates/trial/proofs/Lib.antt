@@ -1,2 +1,3 @@
 -- The program's laws, which belong to no one function.
-pub mod LawsInput
+pub mod LawsCounts
+pub mod LawsTrial

@@ -1,12 +1,12 @@
--- `read_input` meets its contract: each read puts at most as many bytes as there is room, and one that ends the loop puts none.
+-- `read_whole` meets its contract: each read puts at most as many bytes as there is room, and one that ends the loop puts none.
 use mathlib.Core.Path.{_≡_, _∙_}
 use Prim.Native.Nat.{_-_, _≤_}
-use lib.ListN.{length}
 use native.Mathlib.Omega.{arith}
 use borrow.Author.Needs.{needs}
-use Rattle.countsheet.proofs.LawsInput.{bytes-within, failed-within, more-within}
-use Rattle.countsheet.proofs.read_input.Statement.{statement}
-use Rattle.countsheet.proofs.read_input.Tie as tie
+use lib.ListN.{length}
+use Rattle.input.proofs.LawsWithin.{bytes-within, failed-within, more-within}
+use Rattle.input.proofs.standard_input.read_whole.Statement.{statement}
+use Rattle.input.proofs.standard_input.read_whole.Tie as tie
 
 abbrev Inv-loop : tie.InvT-loop
 Inv-loop buffer₀ at₀ buffer at = (at ≤ length buffer) × (length buffer ≡ length buffer₀)
@@ -41,7 +41,7 @@ add-at c =
     let at2 = at1 .before .before .before in
     let at3 = at2 .before in
     let at4 = at3 .before .before .before in
-    omega (arith, more-within (at4 .loop .buffer) _ _ _ _ (at4 .loop .inv .0) (at2 .buffer .given .0) (at1 .more .given .1) (at3 .read-some .ensures))
+    omega (arith, more-within (at4 .loop .buffer) _ _ _ _ (at4 .loop .inv .0) (at2 .buffer .given .0) (at1 .more .given .1) (at3 .read-chunk .ensures))
 
 loop-less : tie.Need-loop-less Inv-loop μ-loop
 loop-less c =
@@ -49,7 +49,7 @@ loop-less c =
     let at2 = at1 .before .before .before in
     let at3 = at2 .before in
     let at4 = at3 .before .before .before in
-    omega (arith, more-within (at4 .loop .buffer) _ _ _ _ (at4 .loop .inv .0) (at2 .buffer .given .0) (at1 .more .given .1) (at3 .read-some .ensures), (at4 .loop .inv .1))
+    omega (arith, more-within (at4 .loop .buffer) _ _ _ _ (at4 .loop .inv .0) (at2 .buffer .given .0) (at1 .more .given .1) (at3 .read-chunk .ensures), (at4 .loop .inv .1))
 
 loop-again : tie.Need-loop-again Inv-loop μ-loop
 loop-again c =
@@ -57,7 +57,7 @@ loop-again c =
     let at2 = at1 .before .before .before in
     let at3 = at2 .before in
     let at4 = at3 .before .before .before in
-    (omega (arith, more-within (at4 .loop .buffer) _ _ _ _ (at4 .loop .inv .0) (at2 .buffer .given .0) (at1 .more .given .1) (at3 .read-some .ensures), (at2 .buffer .given .1)), (at2 .buffer .given .1) ∙ (at4 .loop .inv .1))
+    (omega (arith, more-within (at4 .loop .buffer) _ _ _ _ (at4 .loop .inv .0) (at2 .buffer .given .0) (at1 .more .given .1) (at3 .read-chunk .ensures), (at2 .buffer .given .1)), (at2 .buffer .given .1) ∙ (at4 .loop .inv .1))
 
 same-length-3 : tie.Need-same-length-3 Inv-loop μ-loop
 same-length-3 c = c .before .loop .inv .1
@@ -65,8 +65,8 @@ same-length-3 c = c .before .loop .inv .1
 returns-3 : tie.Need-returns-3 Inv-loop μ-loop
 returns-3 c = bytes-within _ _ (c .before .loop .inv .0)
 
-pub read-input-spec : {M : Type 1} → statement M
-read-input-spec =
+pub read-whole-spec : {M : Type 1} → statement M
+read-whole-spec =
     tie.close
     (tie.spec
     Inv-loop

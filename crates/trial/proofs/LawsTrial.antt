@@ -1,0 +1,56 @@
+-- Laws of what trial prints and of what its words and its counts keep.
+use mathlib.Core.Path.{_≡_, refl}
+use mathlib.Core.Bool.{true}
+use mathlib.Core.List.{List, _++_}
+use Prim.Native.Nat.{ℕ, _+_, _^_, _≤_, _<_}
+use native.Mathlib.Omega.{arith}
+use borrow.Author.Tests.{leb-true, le-leb}
+use lib.ListN.{length, take, length-append}
+use Rattle.identifiers.specs.Bytes.{Puts}
+use Rattle.identifiers.specs.Choice.{both}
+use Rattle.identifiers.proofs.LawsBytes.{keeps-length, puts-whole}
+use Rattle.identifiers.proofs.LawsChoice.{both-true}
+use Rattle.text.specs.Digits.{decimal, blank}
+use Rattle.text.proofs.LawsDigits.{length-decimal}
+use Rattle.text.proofs.LawsPutting.{room-behind}
+use Rattle.trial.specs.Trial.{ownIsTrailer, linesWithin}
+use Rattle.trial.specs.declared.Asked.{Asked}
+use Rattle.trial.specs.declared.Asked.the-variants.{Words, Other}
+use Rattle.trial.specs.declared.Counted.{Counted}
+use Rattle.trial.specs.declared.Counting.the-variants.{Done, Failed}
+
+-- ---- the words
+pub other-asked : ownIsTrailer Other ≡ true
+unfolding ownIsTrailer
+other-asked = refl
+
+pub words-asked : (mask own : ℕ) → 1 ≤ own → own ≤ 5 → ownIsTrailer (Words mask own) ≡ true
+unfolding ownIsTrailer both
+words-asked mask own l h = rw (le-leb _ _ l, le-leb _ _ h)
+
+pub asked-words : {mask own : ℕ} (r : Asked) → r ≡ Words mask own → ownIsTrailer r ≡ true → (1 ≤ own) × (own ≤ 5)
+unfolding ownIsTrailer
+asked-words r e h = let t = both-true _ _ (rw e at h) in (leb-true _ _ (t .0), leb-true _ _ (t .1))
+
+-- ---- the counts
+pub done-within : (counted : Counted) → counted .lines ≤ counted .bytes → linesWithin (Done counted) ≡ true
+unfolding linesWithin
+done-within counted h = le-leb _ _ h
+
+pub failed-within : linesWithin Failed ≡ true
+unfolding linesWithin
+failed-within = refl
+
+-- ---- the line
+-- a number behind a blank, where there is room for 21 bytes and more: it was put, and there is room for those more
+pub after-number : (number more : ℕ) {before after : List ℕ} {at end : ℕ} → number < 2 ^ 64 → at + (21 + more) ≤ length before
+    → (at + 21 ≤ length before → Puts before at (blank ++ decimal number) end after)
+    → Puts before at (blank ++ decimal number) end after × (end + more ≤ length after)
+after-number number more n room put =
+    let p = put (omega arith) in
+    let digits = length-decimal 20 number (omega arith) (omega arith) in
+    (p, room-behind 21 more (omega (arith, digits, length-append blank (decimal number))) room p)
+
+-- what stands before the end is the whole text
+pub whole-text : {a b bytes : List ℕ} {end : ℕ} → end ≤ length b → Puts a 0 bytes end b → take end b ≡ bytes
+whole-text h p = puts-whole (omega (arith, h, p .ends, keeps-length p)) p
