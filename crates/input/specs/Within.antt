@@ -1,5 +1,5 @@
 -- What the operating system answers, as far as a contract can say it: nothing is known of which bytes it brings, or of where they go.
-use mathlib.Core.Bool.{Bool, true}
+use mathlib.Core.Bool.{Bool, true, false}
 use Prim.Native.Nat.{ℕ, _+_, _^_}
 use lib.Dec.{leb, ltb}
 use Rattle.identifiers.specs.Choice.{either}
@@ -24,6 +24,11 @@ unfoldable pub wordWithin : ℕ → WordRead → Bool
 wordWithin room (word.Bytes n) = leb n room
 wordWithin room word.Missing = true
 wordWithin room word.TooLong = true
+
+-- how many values a digit has
+abbrev pub baseOf : Bool → ℕ
+baseOf true = 16
+baseOf false = 10
 
 -- a number that a word says is below a bound
 unfoldable pub below : ℕ → DigitsRead → Bool

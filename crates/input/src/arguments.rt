@@ -3,7 +3,7 @@ ghost use mathlib.Core.Path.{_≡_};
 ghost use mathlib.Core.Bool.{true};
 ghost use Prim.Native.Nat.{_^_};
 ghost use lib.ListN.{length};
-ghost use Rattle.input.specs.Within.{wordsWithin, wordWithin, below};
+ghost use Rattle.input.specs.Within.{wordsWithin, wordWithin, baseOf, below};
 use text::DigitsRead;
 
 // How many bytes a word has, or that there is no such word, or that the buffer does not take it.
@@ -39,24 +39,28 @@ pub fn word(number: usize, buffer: &mut [u8]) -> WordRead
     WordRead::TooLong
 }
 
-// A word of exactly so many hexadecimal digits; a word that is missing or longer than 16 bytes is no number.
+// A word of exactly so many digits; a word that is missing or longer than 16 bytes is no number.
+fn digits_word(number: usize, places: usize, hexadecimal: bool) -> DigitsRead
+    ensures { λ r. ⌜ below (baseOf hexadecimal ^ places) r ≡ true ⌝ }
+{
+    let mut buffer = [0u8; 16];
+    let WordRead::Bytes(n) = word(number, &mut buffer) else {
+        return DigitsRead::NoNumber;
+    };
+    if hexadecimal {
+        return text::read_hex(&buffer[..n], places);
+    }
+    text::read_decimal(&buffer[..n], places)
+}
+
 pub fn hex_word(number: usize, places: usize) -> DigitsRead
     ensures { λ r. ⌜ below (16 ^ places) r ≡ true ⌝ }
 {
-    let mut buffer = [0u8; 16];
-    let WordRead::Bytes(n) = word(number, &mut buffer) else {
-        return DigitsRead::NoNumber;
-    };
-    text::read_hex(&buffer[..n], places)
+    digits_word(number, places, true)
 }
 
-// A word of exactly so many decimal digits, the same way.
 pub fn decimal_word(number: usize, places: usize) -> DigitsRead
     ensures { λ r. ⌜ below (10 ^ places) r ≡ true ⌝ }
 {
-    let mut buffer = [0u8; 16];
-    let WordRead::Bytes(n) = word(number, &mut buffer) else {
-        return DigitsRead::NoNumber;
-    };
-    text::read_decimal(&buffer[..n], places)
+    digits_word(number, places, false)
 }

@@ -1,7 +1,7 @@
 -- Laws of the whole text: what an accepted and a refused input print, and that it fits the page.
 use mathlib.Core.Path.{_≡_, refl, sym, ap, _∙_}
 use mathlib.Core.List.{List, _++_}
-use Prim.Native.Nat.{ℕ, zero, suc, _+_, _*_, _≤_, _<_}
+use Prim.Native.Nat.{ℕ, zero, suc, _+_, _*_, _≤_}
 use native.Mathlib.Omega.{arith}
 use lib.ListN.{length, length-append, take, drop}
 use Rattle.identifiers.specs.Bytes.{Puts}
@@ -10,7 +10,6 @@ use Rattle.identifiers.proofs.LawsBelow.{list-none, list-suc}
 use Rattle.identifiers.proofs.LawsBytes.{drop-written, keeps-length, puts-whole}
 use Rattle.text.specs.Digits.{decimalIn, hex, blank}
 use Rattle.text.proofs.LawsDigits.{length-decimal-in, length-hex}
-use Rattle.text.proofs.LawsPutting.{room-behind}
 use Rattle.sheet.specs.Basis.{basisOf}
 use Rattle.sheet.specs.Sheets.{sheetRead}
 use Rattle.sheet.specs.Readings.{readingsIn, readingOf}
@@ -39,9 +38,16 @@ length-word None = refl
 length-word Full = refl
 length-word Part = refl
 
+-- a number or a mask, and its blank
+pub length-number : (n : ℕ) → length (decimalIn 5 n ++ blank) ≤ 6
+length-number n = omega (arith, length-append (decimalIn 5 n) blank, length-decimal-in 5 n)
+
+pub length-mask : (n : ℕ) → length (hex n ++ blank) ≤ 3
+length-mask n = omega (arith, length-append (hex n) blank, length-hex n)
+
 pub length-numbers : (r : CountReading) → length (numbersOf r) ≤ 18
 unfolding numbersOf
-length-numbers r = simp length-append (omega (arith, length-decimal-in 5 (r .position), length-decimal-in 5 (r .count), length-hex (r .mask), length-hex (r .available)))
+length-numbers r = simp length-append (omega (arith, length-decimal-in 5 (r .position), length-hex (r .mask), length-hex (r .available), length-decimal-in 5 (r .count)))
 
 pub length-line : (r : CountReading) → length (lineOf r) ≤ 23
 unfolding lineOf
@@ -55,22 +61,6 @@ length-lines s (suc n) =
 length-refusal : (n o : ℕ) → length (refusalLine n o) ≤ 23
 unfolding refusalLine
 length-refusal n o = simp length-append (omega (arith, length-decimal-in 5 n, length-decimal-in 5 o))
-
--- ---- a number or a mask and its blank, where there is room for them and for more: it was put, and there is room for those more
-module _ (more : ℕ) {before after : List ℕ} {at end : ℕ} where
-  pub after-number : (number : ℕ) → number < 65536 → at + (6 + more) ≤ length before
-      → (at + 6 ≤ length before → number < 65536 → Puts before at (decimalIn 5 number ++ blank) end after)
-      → Puts before at (decimalIn 5 number ++ blank) end after × (end + more ≤ length after)
-  after-number number n room put =
-      let p = put (omega arith) n in
-      (p, room-behind 6 more (omega (arith, length-decimal-in 5 number, length-append (decimalIn 5 number) blank)) room p)
-
-  pub after-mask : (mask : ℕ) → at + (3 + more) ≤ length before
-      → (at + 3 ≤ length before → Puts before at (hex mask ++ blank) end after)
-      → Puts before at (hex mask ++ blank) end after × (end + more ≤ length after)
-  after-mask mask room put =
-      let p = put (omega arith) in
-      (p, room-behind 3 more (omega (arith, length-hex mask, length-append (hex mask) blank)) room p)
 
 -- ---- the page
 pub printed-fits : (s : List ℕ) → length (printed s) ≤ pageSize

@@ -57,9 +57,12 @@ module _ {before text after : List ℕ} {at end : ℕ} where
   pub puts-fitting : at + length text ≤ length before → Puts before at text end after → PutsIfFits before at text end after
   puts-fitting h p = let f = has-room before at (length text) h in record { ends = taken _ f (p .ends); holds = taken _ f (p .holds) }
 
-  -- a text of at most k bytes, where there is room for k and n more: it was put, and there is room for n behind it
+  -- a text of at most k bytes that is put where there is room for k: where there is room for k and n more, it was put, and there is room for n behind it
+  pub put-given : (k n : ℕ) → length text ≤ k → at + (k + n) ≤ length before → (at + k ≤ length before → Puts before at text end after) → Puts before at text end after × (end + n ≤ length after)
+  put-given k n l h put = let p = put (omega arith) in (p, room-behind k n l h p)
+
   pub put-on : (k n : ℕ) → length text ≤ k → at + (k + n) ≤ length before → PutsIfFits before at text end after → Puts before at text end after × (end + n ≤ length after)
-  put-on k n l h p = let q = put-fits (omega arith) p in (q, room-behind k n l h q)
+  put-on k n l h p = put-given k n l h (λ (r : at + k ≤ length before). put-fits (omega arith) p)
 
   pub if-fits-length : PutsIfFits before at text end after → length after ≡ length before
   if-fits-length p =

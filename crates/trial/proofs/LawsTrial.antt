@@ -2,7 +2,7 @@
 use mathlib.Core.Path.{_≡_, refl}
 use mathlib.Core.Bool.{true}
 use mathlib.Core.List.{List, _++_}
-use Prim.Native.Nat.{ℕ, _+_, _^_, _≤_, _<_}
+use Prim.Native.Nat.{ℕ, _^_, _≤_, _<_}
 use native.Mathlib.Omega.{arith}
 use borrow.Author.Tests.{leb-true, le-leb}
 use lib.ListN.{length, take, length-append}
@@ -12,7 +12,6 @@ use Rattle.identifiers.proofs.LawsBytes.{keeps-length, puts-whole}
 use Rattle.identifiers.proofs.LawsChoice.{both-true}
 use Rattle.text.specs.Digits.{decimal, blank}
 use Rattle.text.proofs.LawsDigits.{length-decimal}
-use Rattle.text.proofs.LawsPutting.{room-behind}
 use Rattle.trial.specs.Trial.{ownIsTrailer, linesWithin}
 use Rattle.trial.specs.declared.Asked.{Asked}
 use Rattle.trial.specs.declared.Asked.the-variants.{Words, Other}
@@ -42,14 +41,9 @@ unfolding linesWithin
 failed-within = refl
 
 -- ---- the line
--- a number behind a blank, where there is room for 21 bytes and more: it was put, and there is room for those more
-pub after-number : (number more : ℕ) {before after : List ℕ} {at end : ℕ} → number < 2 ^ 64 → at + (21 + more) ≤ length before
-    → (at + 21 ≤ length before → Puts before at (blank ++ decimal number) end after)
-    → Puts before at (blank ++ decimal number) end after × (end + more ≤ length after)
-after-number number more n room put =
-    let p = put (omega arith) in
-    let digits = length-decimal 20 number (omega arith) (omega arith) in
-    (p, room-behind 21 more (omega (arith, digits, length-append blank (decimal number))) room p)
+-- a number behind a blank
+pub length-number : (n : ℕ) → n < 2 ^ 64 → length (blank ++ decimal n) ≤ 21
+length-number n h = omega (arith, length-append blank (decimal n), length-decimal 20 n (omega arith) (omega arith))
 
 -- what stands before the end is the whole text
 pub whole-text : {a b bytes : List ℕ} {end : ℕ} → end ≤ length b → Puts a 0 bytes end b → take end b ≡ bytes

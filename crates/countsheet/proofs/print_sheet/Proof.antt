@@ -16,9 +16,7 @@ array-share-prefix-buffer c =
     within-bytes _ _ _ (at-n .n .given .1) (at-n .before .before .before .read-whole .ensures)
 
 slice-aggregate-print : tie.Need-slice-aggregate-print
-slice-aggregate-print c =
-    let at-n = c .before .before in
-    sym (length-take-le _ _ (within-bytes _ _ _ (at-n .n .given .1) (at-n .before .before .before .read-whole .ensures)))
+slice-aggregate-print c = sym (length-take-le _ _ (array-share-prefix-buffer (c .before)))
 
 array-share-prefix-buffer-2 : tie.Need-array-share-prefix-buffer-2
 array-share-prefix-buffer-2 c =
@@ -26,15 +24,13 @@ array-share-prefix-buffer-2 c =
     within-bytes _ _ _ (at-n .n .given .1) (at-n .before .before .before .read-whole .ensures)
 
 slice-aggregate-send : tie.Need-slice-aggregate-send
-slice-aggregate-send c =
-    let at-n = c .before .before .before .before .before in
-    sym (length-take-le _ _ (within-bytes _ _ _ (at-n .n .given .1) (at-n .before .before .before .read-whole .ensures)))
+slice-aggregate-send c = sym (length-take-le _ _ (array-share-prefix-buffer-2 (c .before)))
 
 array-share-prefix-page : tie.Need-array-share-prefix-page
 array-share-prefix-page c = print-fits _ (length-replicate {A = ℕ} pageSize 0) (c .before .print .ensures)
 
 slice-aggregate-send-2 : tie.Need-slice-aggregate-send-2
-slice-aggregate-send-2 c = sym (length-take-le _ _ (print-fits _ (length-replicate {A = ℕ} pageSize 0) (c .before .before .print .ensures)))
+slice-aggregate-send-2 c = sym (length-take-le _ _ (array-share-prefix-page (c .before)))
 
 send-requires : tie.Need-send-requires
 send-requires c κs =

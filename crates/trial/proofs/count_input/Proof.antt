@@ -35,9 +35,7 @@ array-share-prefix-buffer c =
     within-bytes _ _ _ (at-n .n .given .1) (at-n .before .before .before .read-chunk .ensures)
 
 slice-aggregate-count-chunk : tie.Need-slice-aggregate-count-chunk Inv-loop μ-loop
-slice-aggregate-count-chunk c =
-    let at-n = c .before .before .before in
-    sym (length-take-le _ _ (within-bytes _ _ _ (at-n .n .given .1) (at-n .before .before .before .read-chunk .ensures)))
+slice-aggregate-count-chunk c = sym (length-take-le _ _ (array-share-prefix-buffer (c .before)))
 
 count-chunk-requires : tie.Need-count-chunk-requires Inv-loop μ-loop
 count-chunk-requires c κs =
