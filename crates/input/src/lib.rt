@@ -1,4 +1,5 @@
-// What a program is handed, standard input and the words behind its name, and where its lines go.
+// What a program is handed, standard input and the words behind its name, and where its lines go. Which bytes the operating
+// system brings, which words were given and whether what is written arrives, no contract can say: they bound what is counted.
 mod arguments;
 mod standard_input;
 mod standard_output;
