@@ -8,6 +8,7 @@ use native.Mathlib.Omega.{arith}
 use borrow.Author.Tests.{leb-true, le-leb, ltb-true, lt-ltb}
 use lib.Dec.{ltb}
 use lib.ListN.{length, take, drop, length-take, length-drop}
+use lib.Seq.{length-take-le}
 use Rattle.identifiers.proofs.LawsChoice.{left-holds, right-holds}
 use Rattle.text.specs.Reading.{digitsRead}
 use Rattle.text.specs.declared.reading.DigitsRead.{DigitsRead}
@@ -39,6 +40,10 @@ pub more-within : (buffer : List ℕ) (room at n : ℕ) (r : Input) → at ≤ l
 more-within buffer room at n r h l e w =
     let rest : length (take (length buffer - at) (drop at buffer)) ≡ length buffer - at = simp (length-take, length-drop) (omega arith) in
     omega (arith, within-bytes room n r e w)
+
+-- a chunk is no longer than its buffer
+pub chunk-length : (buffer : List ℕ) {n most : ℕ} {r : Input} → r ≡ input.Bytes n → within (length buffer) r ≡ true → length buffer ≡ most → length (take n buffer) ≤ most
+chunk-length buffer {n} e w l = let h = within-bytes _ n _ e w in omega (arith, length-take-le n buffer h, h, l)
 
 -- ---- words
 pub words-within : (n : ℕ) → n + 1 < 2 ^ 64 → wordsWithin n ≡ true

@@ -2,7 +2,7 @@
 -- statement can be read without its proof. The basis is in LawsBasis, the worked examples are in Worked.
 use mathlib.Core.Path.{_≡_, refl, sym, ap, _∙_}
 use mathlib.Core.Bool.{Bool, true, false}
-use mathlib.Core.List.{List, _++_, append-assoc}
+use mathlib.Core.List.{List, [], _∷_, _++_, append-assoc}
 use Prim.Native.Nat.{ℕ, _+_, _*_, _≤_, _<_}
 use native.Mathlib.Omega.{arith}
 use borrow.Author.Tests.{ltb-true, ltb-false}
@@ -12,8 +12,9 @@ use lib.Seq.{take-all}
 use Rattle.identifiers.specs.Below.{listBelow}
 use Rattle.identifiers.specs.Bytes.{Puts}
 use Rattle.identifiers.specs.Refusals.{refusal, numberOf}
-use Rattle.text.specs.Digits.{decimalIn, hex, blank, newline, valueFrom, newlines}
-use Rattle.text.proofs.Texts.{decimal-in-says, hex-says}
+use Rattle.text.specs.Digits.{decimal, hex, blank, newline, valueFrom, newlines}
+use Rattle.text.proofs.LawsDigits.{decimal-in}
+use Rattle.text.proofs.Texts.{decimal-says, hex-says}
 use Rattle.sheet.specs.Basis.{basisOf}
 use Rattle.sheet.specs.Sheets.{sheetRead}
 use Rattle.sheet.specs.Readings.{readingsIn, readingOf, readingBytes, sheetOf, Sound, EachSound}
@@ -55,16 +56,24 @@ accepted-sheet s b e =
 -- a line says its reading: the columns "decimal, hex, hex, decimal, word" say position, mask, available, count and basis
 pub record LineSays (r : CountReading) : Type 0 where
   pub columns : lineOf r
-      ≡ decimalIn 5 (r .position) ++ blank ++ hex (r .mask) ++ blank ++ hex (r .available) ++ blank ++ decimalIn 5 (r .count) ++ blank ++ wordOf (basisOf (r .mask) (r .available)) ++ newline
-  pub position : valueFrom 10 0 (decimalIn 5 (r .position)) ≡ r .position
+      ≡ decimal (r .position) ++ blank ++ hex (r .mask) ++ blank ++ hex (r .available) ++ blank ++ decimal (r .count) ++ blank ++ wordOf (basisOf (r .mask) (r .available)) ++ newline
+  pub position : valueFrom 10 0 (decimal (r .position)) ≡ r .position
   pub mask : valueFrom 16 0 (hex (r .mask)) ≡ r .mask
   pub available : valueFrom 16 0 (hex (r .available)) ≡ r .available
-  pub count : valueFrom 10 0 (decimalIn 5 (r .count)) ≡ r .count
+  pub count : valueFrom 10 0 (decimal (r .count)) ≡ r .count
 
 pub line-says : (r : CountReading) → Sound r → LineSays r
 unfolding lineOf numbersOf
 line-says r h =
-    record { columns = simp append-assoc; position = decimal-in-says 5 (r .position) (omega (arith, position-range (r .position) (h .position) .1)); mask = hex-says (r .mask) (h .masks .0); available = hex-says (r .available) (h .masks .1); count = decimal-in-says 5 (r .count) (omega (arith, h .count)) }
+    let position = decimal-in 5 (r .position) (omega arith) (omega (arith, position-range (r .position) (h .position) .1)) in
+    let count = decimal-in 5 (r .count) (omega arith) (omega (arith, h .count)) in
+    record {
+      columns = rw (position, count) (simp append-assoc);
+      position = decimal-says (r .position);
+      mask = hex-says (r .mask) (h .masks .0);
+      available = hex-says (r .available) (h .masks .1);
+      count = decimal-says (r .count);
+    }
 
 -- ---- readings written one after the other are accepted, and read back
 pub record WrittenSheet (rs : List CountReading) : Type 0 where
@@ -101,21 +110,20 @@ pub earliest-field-then-lowest : (s : List ℕ) (why : Refusal) (offset : ℕ) �
 earliest-field-then-lowest s why offset l = (earliest-then-lowest s why offset l, earliest-refused s why offset l)
 
 pub record RefusedSheet (s : List ℕ) (why : Refusal) (offset : ℕ) : Type 0 where
-  pub text : printed s ≡ refusalLine (numberOf why) offset
+  -- "refused N at OFFSET"
+  pub text : printed s ≡ (114 ∷ 101 ∷ 102 ∷ 117 ∷ 115 ∷ 101 ∷ 100 ∷ 32 ∷ []) ++ decimal (numberOf why) ++ (32 ∷ 97 ∷ 116 ∷ 32 ∷ []) ++ decimal offset ++ newline
   pub one-line : newlines (printed s) ≡ 1
-  pub number : valueFrom 10 0 (decimalIn 5 (numberOf why)) ≡ numberOf why
-  pub place : valueFrom 10 0 (decimalIn 5 offset) ≡ offset
+  pub number : valueFrom 10 0 (decimal (numberOf why)) ≡ numberOf why
+  pub place : valueFrom 10 0 (decimal offset) ≡ offset
 
 pub refused-sheet : (s : List ℕ) (why : Refusal) (offset : ℕ) → sheetRead s ≡ Refused why offset → RefusedSheet s why offset
+unfolding refusalLine
 refused-sheet s why offset e =
     let t = printed-refused s why offset e in
     let r = refused-small s why offset e in
-    record {
-      text = t;
-      one-line = ap newlines t ∙ newlines-refusal (numberOf why) offset;
-      number = decimal-in-says 5 (numberOf why) (omega (arith, r .number));
-      place = decimal-in-says 5 offset (omega (arith, r .place));
-    }
+    let number = decimal-in 5 (numberOf why) (omega arith) (omega (arith, r .number)) in
+    let place = decimal-in 5 offset (omega arith) (omega (arith, r .place)) in
+    record { text = t ∙ rw (number, place); one-line = ap newlines t ∙ newlines-refusal (numberOf why) offset; number = decimal-says (numberOf why); place = decimal-says offset }
 
 -- ---- the page: where it holds a text as `print`'s contract says, that is the whole text, and every byte after it is as it was
 pub page-holds : {page after : List ℕ} {end : ℕ} (s : List ℕ) → length page ≡ pageSize → Puts page 0 (printed s) end after → (take end after ≡ printed s) × (drop end after ≡ drop end page)

@@ -6,10 +6,10 @@ use Prim.Native.Nat.{ℕ, _+_, _-_, _/_, _%_, _≤_, _<_}
 use native.Mathlib.Omega.{arith}
 use borrow.Author.Tests.{leb-true, leb-false, le-leb, lt-leb, not-true, not-false}
 use lib.Dec.{leb}
-use lib.ListN.{length, set}
+use lib.ListN.{length, take, set}
 use lib.Seq.{set-comm}
 use Rattle.identifiers.specs.Bytes.{written, Puts}
-use Rattle.identifiers.proofs.LawsBytes.{written-none, length-written, written-append, puts-byte, keeps-length}
+use Rattle.identifiers.proofs.LawsBytes.{written-none, length-written, written-append, puts-byte, keeps-length, puts-whole}
 use Rattle.identifiers.proofs.LawsChoice.{taken, passed, pick-true, pick-false, by-test}
 use Rattle.text.specs.Digits.{decimal}
 use Rattle.text.specs.Putting.{fits, PutsIfFits}
@@ -46,6 +46,10 @@ module _ (buffer : List ℕ) (at count : ℕ) where
 -- ---- put where it fits
 pub room-behind : (k n : ℕ) {before bytes after : List ℕ} {at end : ℕ} → length bytes ≤ k → at + (k + n) ≤ length before → Puts before at bytes end after → end + n ≤ length after
 room-behind k n l h p = omega (arith, p .ends, keeps-length p)
+
+-- what was put from the start on, up to an end that lies in the buffer, is the whole text
+pub put-stands : {before bytes after : List ℕ} {end : ℕ} → end ≤ length after → Puts before 0 bytes end after → take end after ≡ bytes
+put-stands h p = puts-whole (omega (arith, h, p .ends, keeps-length p)) p
 
 module _ {before text after : List ℕ} {at end : ℕ} where
   pub put-fits : at + length text ≤ length before → PutsIfFits before at text end after → Puts before at text end after

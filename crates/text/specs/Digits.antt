@@ -47,7 +47,7 @@ unfoldable pub valueFrom : ℕ → ℕ → List ℕ → ℕ
 valueFrom base n [] = n
 valueFrom base n (b ∷ bytes) = valueFrom base (n * base + digitValue b) bytes
 
--- how many lines a text ends
+-- how many newlines a text has
 abbrev pub newlines : List ℕ → ℕ
 newlines [] = 0
 newlines (b ∷ bytes) = pick (eqb b 10) 1 0 + newlines bytes

@@ -1,4 +1,4 @@
--- Laws of lines counted: byte after byte, never more lines than bytes, and chunks no longer than their buffer.
+-- Laws of lines counted: byte after byte, and never more lines than bytes.
 use mathlib.Core.Path.{_≡_, refl, ap, _∙_}
 use mathlib.Core.Bool.{Bool, true, false}
 use mathlib.Core.List.{List, [], _∷_}
@@ -11,10 +11,6 @@ use lib.ListN.{length, getD, take}
 use lib.Seq.{take-suc, length-take-le}
 use Rattle.text.specs.Digits.{newlines}
 use Rattle.text.proofs.LawsDigits.{newlines-append, not-newline, one-newline}
-use Rattle.input.specs.Within.{within}
-use Rattle.input.specs.declared.standard_input.Input.{Input}
-use Rattle.input.specs.declared.standard_input.Input.the-variants.{Bytes}
-use Rattle.input.proofs.LawsWithin.{within-bytes}
 
 pub lines-none : newlines [] ≡ 0
 lines-none = omega (arith, newlines-append [] [])
@@ -43,7 +39,3 @@ lines-within (b ∷ chunk) = omega (arith, newlines-append (b ∷ []) chunk, one
 
 pub passed-within : (chunk : List ℕ) (i : ℕ) → i ≤ length chunk → newlines (take i chunk) ≤ i
 passed-within chunk i h = omega (arith, lines-within (take i chunk), length-take-le i chunk h)
-
--- a chunk is no longer than its buffer
-pub chunk-length : (buffer : List ℕ) {n most : ℕ} {r : Input} → r ≡ Bytes n → within (length buffer) r ≡ true → length buffer ≡ most → length (take n buffer) ≤ most
-chunk-length buffer {n} e w l = let h = within-bytes _ n _ e w in omega (arith, length-take-le n buffer h, h, l)

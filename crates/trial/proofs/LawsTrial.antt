@@ -1,14 +1,12 @@
 -- Laws of what trial prints and of what its words and its counts keep.
 use mathlib.Core.Path.{_≡_, refl}
 use mathlib.Core.Bool.{true}
-use mathlib.Core.List.{List, _++_}
+use mathlib.Core.List.{_++_}
 use Prim.Native.Nat.{ℕ, _^_, _≤_, _<_}
 use native.Mathlib.Omega.{arith}
 use borrow.Author.Tests.{leb-true, le-leb}
-use lib.ListN.{length, take, length-append}
-use Rattle.identifiers.specs.Bytes.{Puts}
+use lib.ListN.{length, length-append}
 use Rattle.identifiers.specs.Choice.{both}
-use Rattle.identifiers.proofs.LawsBytes.{keeps-length, puts-whole}
 use Rattle.identifiers.proofs.LawsChoice.{both-true}
 use Rattle.text.specs.Digits.{decimal, blank}
 use Rattle.text.proofs.LawsDigits.{length-decimal}
@@ -44,7 +42,3 @@ failed-within = refl
 -- a number behind a blank
 pub length-number : (n : ℕ) → n < 2 ^ 64 → length (blank ++ decimal n) ≤ 21
 length-number n h = omega (arith, length-append blank (decimal n), length-decimal 20 n (omega arith) (omega arith))
-
--- what stands before the end is the whole text
-pub whole-text : {a b bytes : List ℕ} {end : ℕ} → end ≤ length b → Puts a 0 bytes end b → take end b ≡ bytes
-whole-text h p = puts-whole (omega (arith, h, p .ends, keeps-length p)) p

@@ -2,7 +2,7 @@
 use mathlib.Core.Path.{sym}
 use borrow.Author.Needs.{needs}
 use lib.Seq.{length-take-le}
-use Rattle.trial.proofs.LawsTrial.{whole-text}
+use Rattle.text.proofs.LawsPutting.{put-stands}
 use Rattle.trial.proofs.answer.Statement.{statement}
 use Rattle.trial.proofs.answer.Tie as tie
 
@@ -13,7 +13,7 @@ send-requires : tie.Need-send-requires
 send-requires c κs =
     let at-compose = c .before .before in
     let entry = at-compose .before .before .before .before .before .before in
-    (entry .pre, whole-text (at-compose .compose .ensures .1) (at-compose .compose .ensures .0))
+    (entry .pre, put-stands (at-compose .compose .ensures .1) (at-compose .compose .ensures .0))
 
 pub answer-spec : {M : Type 1} → statement M
 answer-spec =

@@ -5,8 +5,8 @@ use native.Mathlib.Omega.{arith}
 use borrow.Author.Needs.{needs}
 use lib.ListN.{length, take}
 use lib.Seq.{length-take-le}
-use Rattle.input.proofs.LawsWithin.{within-bytes}
-use Rattle.trial.proofs.LawsCounts.{lines-within, chunk-length}
+use Rattle.input.proofs.LawsWithin.{within-bytes, chunk-length}
+use Rattle.trial.proofs.LawsCounts.{lines-within}
 use Rattle.trial.proofs.LawsTrial.{done-within, failed-within}
 use Rattle.trial.proofs.count_input.Statement.{statement}
 use Rattle.trial.proofs.count_input.Tie as tie
