@@ -11,7 +11,7 @@ unfoldable pub decimalIn : ℕ → ℕ → List ℕ
 decimalIn zero n = []
 decimalIn (suc places) n = pick (ltb n 10) ((48 + n) ∷ []) (decimalIn places (n / 10) ++ ((48 + n % 10) ∷ []))
 
--- a number in decimal, with no zeros in front: no number has as many places as it says
+-- a number in decimal, with no zeros in front: n + 1 places are enough for n
 unfoldable pub decimal : ℕ → List ℕ
 decimal n = decimalIn (suc n) n
 
