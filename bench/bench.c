@@ -225,16 +225,43 @@ static void cut_model(unsigned long rounds)
     }
 }
 
-/* ---- a full sheet -------------------------------------------------------------------------- */
+/* ---- a sheet, and the page of one mask ------------------------------------------------------ */
 
 static uint8_t input[65535];
+static size_t input_length;
+
+static void add_reading(uint8_t mask, uint8_t available, unsigned count)
+{
+    const uint8_t reading[17] = {1, 0, 1, (uint8_t)(1 + count % 5), 2, 0, 1, mask, 3, 0, 6, 0x59, 0x01, available, 0x03,
+                                 (uint8_t)(count >> 8), (uint8_t)count};
+    memcpy(input + input_length, reading, 17);
+    input_length += 17;
+}
 
 static void full_sheet(void)
 {
     for (unsigned i = 0; i < 3855; i++) {
-        const uint8_t reading[17] = {1, 0, 1, (uint8_t)(1 + i % 5), 2, 0, 1, (uint8_t)(0x08 + i % 3), 3, 0, 6, 0x59, 0x01, 0x4B, 0x03,
-                                     (uint8_t)(i >> 8), (uint8_t)i};
-        memcpy(input + 17 * i, reading, 17);
+        add_reading((uint8_t)(0x08 + i % 3), 0x4B, i);
+    }
+}
+
+/* Readings of one mask, each with another count, the highest first. */
+static void falling(unsigned readings)
+{
+    while (readings > 0) {
+        add_reading(0x0C, 0x7F, --readings);
+    }
+}
+
+static void falling_100(void) { falling(100); }
+static void falling_1000(void) { falling(1000); }
+static void falling_3855(void) { falling(3855); }
+
+/* The same with every third reading excluded. */
+static void excluding(void)
+{
+    for (unsigned i = 3855; i > 0; i--) {
+        add_reading(0x0C, i % 3 == 0 ? 0x49 : 0x7F, i);
     }
 }
 
@@ -242,7 +269,7 @@ static void sheet_archive(unsigned long rounds)
 {
     static uint8_t page[CASTANHIU_PAGE];
     for (unsigned long r = 0; r < rounds; r++) {
-        sink += castanhiu_sheet_text(input, sizeof input, page);
+        sink += castanhiu_sheet_text(input, input_length, page);
     }
 }
 
@@ -250,7 +277,23 @@ static void sheet_model(unsigned long rounds)
 {
     static char page[MODEL_SHEET_TEXT];
     for (unsigned long r = 0; r < rounds; r++) {
-        sink += model_count_sheet(input, sizeof input, page);
+        sink += model_count_sheet(input, input_length, page);
+    }
+}
+
+static void ranking_archive(unsigned long rounds)
+{
+    static uint8_t page[CASTANHIU_PAGE];
+    for (unsigned long r = 0; r < rounds; r++) {
+        sink += castanhiu_ranking_text(input, input_length, 0x0C, page);
+    }
+}
+
+static void ranking_model(unsigned long rounds)
+{
+    static char page[MODEL_SHEET_TEXT];
+    for (unsigned long r = 0; r < rounds; r++) {
+        sink += model_ranking(input, input_length, 0x0C, page);
     }
 }
 
@@ -280,6 +323,11 @@ static const work works[] = {
     {"serve-14-near-empty", 1, empty_14, serve_archive, serve_model},
     {"cut", 43, nothing, cut_archive, cut_model},
     {"sheet-full", 1, full_sheet, sheet_archive, sheet_model},
+    {"sheet-falling", 1, falling_3855, sheet_archive, sheet_model},
+    {"ranking-falling", 1, falling_3855, ranking_archive, ranking_model},
+    {"ranking-1000", 1, falling_1000, ranking_archive, ranking_model},
+    {"ranking-100", 1, falling_100, ranking_archive, ranking_model},
+    {"ranking-excluding", 1, excluding, ranking_archive, ranking_model},
 };
 
 enum { WORKS = sizeof works / sizeof works[0] };
@@ -305,7 +353,7 @@ static void print_time(const work *w, unsigned calls, unsigned long rounds)
     printf("%.1f %.1f\n", archive / count, model / count);
 }
 
-enum { AREA = 16384 };
+enum { AREA = 131072 };
 
 static __attribute__((noinline)) void paint(void)
 {
@@ -358,6 +406,7 @@ int main(int argc, char **argv)
             continue;
         }
         offered = 0;
+        input_length = 0;
         w->prepare();
         const unsigned calls = w->calls != 0 ? w->calls : offered;
         const unsigned long rounds = argc > 3 ? strtoul(argv[3], NULL, 0) : 0;

@@ -184,4 +184,8 @@ castanhiu_record_answer castanhiu_set_status(castanhiu_record *record, uint32_t 
  * Memory: bytes of the page past the text stay. */
 size_t castanhiu_sheet_text(const uint8_t *input, size_t input_length, uint8_t page[CASTANHIU_PAGE]);
 
+/* Prints the page of one mask from the same input: its readings whose basis is full, lowest count first, equal counts as in
+ * the input; behind them its other readings, as in the input. Needs 31 kB of stack. Refuses and writes as above. */
+size_t castanhiu_ranking_text(const uint8_t *input, size_t input_length, uint8_t mask, uint8_t page[CASTANHIU_PAGE]);
+
 #endif

@@ -278,3 +278,8 @@ size_t model_count_sheet(const uint8_t *input, size_t length, char *text)
 {
     return castanhiu_sheet_text(LENT(input), within(input, length), (uint8_t *)text);
 }
+
+size_t model_ranking(const uint8_t *input, size_t length, uint8_t mask, char *text)
+{
+    return castanhiu_ranking_text(LENT(input), within(input, length), mask, (uint8_t *)text);
+}

@@ -803,49 +803,86 @@ static void put_reading(uint8_t *to)
     memcpy(to, reading, sizeof reading);
 }
 
+/* A sheet: whole readings, or with a cut, stray bytes, another byte, or too long; how many bytes it has. */
+static size_t put_sheet(void)
+{
+    const unsigned readings_in = cases % 20000 == 0 ? OF(3855, 3854, 400) : below(OF(1, 3, 8));
+    size_t length = 17u * readings_in;
+    for (unsigned i = 0; i < readings_in; i++) {
+        put_reading(input + 17 * i);
+    }
+    if (one_in(2)) {
+        switch (below(4)) {
+        case 0:
+            return length > 0 ? below((uint32_t)length + 1) : 0;
+        case 1:
+            return length + below(18);
+        case 2:
+            if (length > 0) {
+                input[below((uint32_t)length)] = (uint8_t)(one_in(2) ? any() : below(8));
+            }
+            break;
+        default:
+            if (cases % 64 == 0) {
+                return OF(65535, 65536, 65537, 65600);
+            }
+        }
+    }
+    return length;
+}
+
+static void fresh_pages(void)
+{
+    memset(input, 0, sizeof input);
+    memset(page, 0xEE, sizeof page);
+    memset(text, (char)0xEE, sizeof text);
+}
+
+/* Both texts, and the bytes behind them; then both pages as before. */
+static void same_pages(size_t length, size_t a, size_t m)
+{
+    SAME(a, m);
+    SAME_BYTES(page, text, m + 64);
+    if (length > 60000 || cases % 512 == 0) {
+        SAME_BYTES(page, text, sizeof page);
+    }
+    answered(text[0] == 'r' ? (unsigned)(10 * (text[8] - '0') + text[9] - '0') : 0);
+    memset(page, 0xEE, m);
+    memset(text, (char)0xEE, m);
+}
+
 static void sheet(unsigned long count)
 {
     begin("sheet_text");
-    for (size_t i = 0; i < sizeof input; i++) {
-        input[i] = 0;
-    }
-    memset(page, 0xEE, sizeof page);
-    memset(text, (char)0xEE, sizeof text);
+    fresh_pages();
     while (cases < count) {
-        const unsigned readings_in = cases % 20000 == 0 ? OF(3855, 3854, 400) : below(OF(1, 3, 8));
-        size_t length = 17u * readings_in;
-        for (unsigned i = 0; i < readings_in; i++) {
-            put_reading(input + 17 * i);
-        }
-        if (one_in(2)) {
-            switch (below(4)) {
-            case 0:
-                length = length > 0 ? below((uint32_t)length + 1) : 0;
-                break;
-            case 1:
-                length += below(18);
-                break;
-            case 2:
-                if (length > 0) {
-                    input[below((uint32_t)length)] = (uint8_t)(one_in(2) ? any() : below(8));
-                }
-                break;
-            default:
-                if (cases % 64 == 0) {
-                    length = OF(65535, 65536, 65537, 65600);
-                }
-            }
-        }
+        const size_t length = put_sheet();
         const size_t a = castanhiu_sheet_text(input, length, page);
-        const size_t m = model_count_sheet(input, length, text);
-        SAME(a, m);
-        SAME_BYTES(page, text, m + 64);
-        if (length > 60000 || cases % 512 == 0) {
-            SAME_BYTES(page, text, sizeof page);
+        same_pages(length, a, model_count_sheet(input, length, text));
+    }
+    end();
+}
+
+/* The readings of a sheet with few masks, so that many are asked for and some counts are equal. */
+static void fewer_masks(size_t length)
+{
+    for (size_t at = 7; at < length; at += 17) {
+        input[at] = (uint8_t)OF(0x00, 0x08, 0x08, 0x0C);
+    }
+}
+
+static void ranking(unsigned long count)
+{
+    begin("ranking_text");
+    fresh_pages();
+    while (cases < count) {
+        const size_t length = put_sheet();
+        if (!one_in(4)) {
+            fewer_masks(length);
         }
-        answered(text[0] == 'r' ? (unsigned)(10 * (text[8] - '0') + text[9] - '0') : 0);
-        memset(page, 0xEE, m);
-        memset(text, (char)0xEE, m);
+        const uint8_t mask = (uint8_t)(one_in(16) ? any() : OF(0x00, 0x08, 0x08, 0x0C));
+        const size_t a = castanhiu_ranking_text(input, length, mask, page);
+        same_pages(length, a, model_ranking(input, length, mask, text));
     }
     end();
 }
@@ -867,6 +904,7 @@ int main(int argc, char **argv)
     cutter(count);
     server(count);
     sheet(count);
+    ranking(count);
     printf("the archive and the model agree\n");
     return 0;
 }

@@ -1,6 +1,6 @@
 /*
- * An independent model of document 01: identifier, vehicle addresses, route, readings, receiver and
- * cutter, server, count sheet.
+ * An independent model of document 01, identifier, vehicle addresses, route, readings, receiver and
+ * cutter, server, count sheet; and of document 02's ranking.
  *
  * Refusal numbers are document 01's, 0 for none. On a refusal every other field of a result is 0,
  * save that refusal 11 of the receiver also says that overflow control is due and to whom.
@@ -225,5 +225,11 @@ uint8_t model_set_status(model_record *record, uint32_t code, uint8_t status);
  * text has no closing zero.
  */
 size_t model_count_sheet(const uint8_t *input, size_t length, char *text);
+
+/*
+ * The same for the page of one mask: its readings whose basis is full, lowest count first, equal
+ * counts as in the sheet, then its other readings as in the sheet.
+ */
+size_t model_ranking(const uint8_t *input, size_t length, uint8_t mask, char *text);
 
 #endif

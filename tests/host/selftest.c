@@ -1,5 +1,5 @@
 /*
- * Document 01 put to the independent model, and to the archive: every worked number, both sides of
+ * The documents put to the independent model, and to the archive: every worked number, both sides of
  * the boundaries in the rules, and random runs that check what must stay as it was. The checks
  * stand over the model's names; linked with archive.c, these are the archive's.
  *
@@ -1544,7 +1544,8 @@ static char text_before[MODEL_SHEET_TEXT];
 
 #define HEADER "position mask available count basis\n"
 
-static int prints(const uint8_t *input, size_t length, const char *expected)
+/* The count sheet, or the page of a mask, of an input at the end of its own memory. */
+static int gives(const uint8_t *input, size_t length, const uint8_t *mask, const char *expected)
 {
     uint8_t *own = malloc(length ? length : 1);
     if (own == NULL) {
@@ -1552,11 +1553,16 @@ static int prints(const uint8_t *input, size_t length, const char *expected)
     }
     memcpy(own, input, length);
     memset(text, '#', sizeof text);
-    const size_t n = model_count_sheet(own, length, text);
+    const size_t n = mask == NULL ? model_count_sheet(own, length, text) : model_ranking(own, length, *mask, text);
     free(own);
     const int same = n == strlen(expected) && memcmp(text, expected, n) == 0;
     memset(text_before, '#', sizeof text_before);
     return same && memcmp(text + n, text_before, sizeof text - n) == 0;
+}
+
+static int prints(const uint8_t *input, size_t length, const char *expected)
+{
+    return gives(input, length, NULL, expected);
 }
 
 static void test_sheet(void)
@@ -1734,6 +1740,145 @@ static void test_sheet(void)
     free(expected);
 }
 
+/* ---- the page of one mask ------------------------------------------------------------------ */
+
+static int ranks(const uint8_t *input, size_t length, uint8_t mask, const char *expected)
+{
+    return gives(input, length, &mask, expected);
+}
+
+/* A reading of 17 bytes. */
+static uint8_t *put_reading(uint8_t *to, uint8_t position, uint8_t mask, uint8_t available, unsigned count)
+{
+    const uint8_t reading[17] = {1, 0, 1, position, 2, 0, 1, mask, 3, 0, 6, 0x59, 0x01, available, 0x03,
+                                 (uint8_t)(count >> 8), (uint8_t)count};
+    memcpy(to, reading, 17);
+    return to + 17;
+}
+
+static void test_ranking_worked(void)
+{
+    uint8_t sheet[17 * 8];
+    uint8_t *to = put_reading(sheet, 3, 0x0C, 0x7F, 9);
+    to = put_reading(to, 1, 0x0C, 0x49, 0);
+    to = put_reading(to, 2, 0x0C, 0x7F, 4);
+    to = put_reading(to, 5, 0x08, 0x7F, 1);
+    to = put_reading(to, 4, 0x0C, 0x7F, 4);
+    const size_t length = (size_t)(to - sheet);
+    CHECK(ranks(sheet, length, 0x0C, HEADER "2 0C 7F 4 full\n4 0C 7F 4 full\n3 0C 7F 9 full\n1 0C 49 0 part\n"));
+    CHECK(ranks(sheet, length, 0x08, HEADER "5 08 7F 1 full\n"));
+    CHECK(ranks(sheet, length, 0x04, HEADER));
+    CHECK(ranks(sheet, length, 0x00, HEADER));
+    CHECK(ranks(sheet, 0, 0x0C, HEADER));
+    CHECK(model_ranking(NULL, 0, 0x0C, text) == strlen(HEADER));
+
+    /* a sheet that is refused: its line, whatever the mask; also for a field of another mask, and behind the last of this one */
+    for (size_t n = 1; n < length; n++) {
+        if (n % 17 != 0) {
+            const size_t k = model_count_sheet(sheet, n, text);
+            char expected[40];
+            memcpy(expected, text, k);
+            expected[k] = 0;
+            CHECK(expected[0] == 'r' && ranks(sheet, n, 0x0C, expected) && ranks(sheet, n, 0xFF, expected));
+        }
+    }
+    sheet[17 * 3 + 3] = 6;
+    CHECK(ranks(sheet, length, 0x0C, "refused 24 at 51\n"));
+    sheet[17 * 3 + 3] = 5;
+    sheet[17 * 4] = 2;
+    CHECK(ranks(sheet, length, 0x08, "refused 23 at 68\n"));
+    CHECK(model_ranking(NULL, 65536, 0x08, text) == 16 && memcmp(text, "refused 21 at 0\n", 16) == 0);
+
+    /* mask 00 is none, whatever the count; two equal readings are two lines */
+    to = put_reading(sheet, 2, 0x00, 0xFF, 7);
+    to = put_reading(to, 1, 0x00, 0x49, 0);
+    to = put_reading(to, 2, 0x00, 0xFF, 7);
+    CHECK(ranks(sheet, 51, 0x00, HEADER "2 00 FF 7 none\n1 00 49 0 none\n2 00 FF 7 none\n"));
+
+    /* counts of one byte and of two; the excluded ones behind the highest of them */
+    to = put_reading(sheet, 1, 0x80, 0x49, 0);
+    to = put_reading(to, 2, 0x80, 0xC9, 65535);
+    to = put_reading(to, 3, 0x80, 0xC9, 256);
+    to = put_reading(to, 4, 0x80, 0xC9, 255);
+    to = put_reading(to, 5, 0x80, 0xC9, 32768);
+    to = put_reading(to, 1, 0x80, 0xC9, 0);
+    CHECK(ranks(sheet, 102, 0x80,
+                HEADER "1 80 C9 0 full\n4 80 C9 255 full\n3 80 C9 256 full\n5 80 C9 32768 full\n2 80 C9 65535 full\n"
+                       "1 80 49 0 none\n"));
+}
+
+/* What the sentence says, line by line: again and again the first of the lowest counts that is left, then the excluded ones. */
+static void page_of(char *to, const uint8_t *sheet, size_t count, uint8_t mask)
+{
+    static const char *const words[3] = {"none", "part", "full"};
+    uint8_t used[16] = {0};
+    to += sprintf(to, HEADER);
+    for (int full = 1; full >= 0; full--) {
+        for (size_t turn = 0; turn < count; turn++) {
+            size_t best = count;
+            for (size_t k = 0; k < count; k++) {
+                const uint8_t *const r = sheet + 17 * k;
+                if (used[k] || r[7] != mask || full != ((r[7] & r[13]) == r[7] && r[7] != 0)) {
+                    continue;
+                }
+                const uint8_t *const b = sheet + 17 * best;
+                if (best == count || (full && r[15] * 256 + r[16] < b[15] * 256 + b[16])) {
+                    best = k;
+                }
+            }
+            if (best < count) {
+                const uint8_t *const r = sheet + 17 * best;
+                used[best] = 1;
+                to += sprintf(to, "%d %02X %02X %d %s\n", r[3], r[7], r[13], r[15] * 256 + r[16],
+                              words[full ? 2 : (r[7] & r[13]) != 0]);
+            }
+        }
+    }
+}
+
+static void test_ranking_random(void)
+{
+    static const uint8_t masks[] = {0x00, 0x08, 0x0C, 0x80}, availables[] = {0x49, 0x4B, 0x4F, 0x7F, 0xC9, 0xFF};
+    uint8_t sheet[17 * 13];
+    char expected[512];
+    for (int i = 0; i < 100000; i++) {
+        const size_t count = below(13);
+        for (size_t k = 0; k < count; k++) {
+            put_reading(sheet + 17 * k, (uint8_t)(1 + below(5)), masks[below(4)], availables[below(6)],
+                        below(2) ? below(4) : any() & 0xFFFF);
+        }
+        const uint8_t mask = masks[below(4)];
+        page_of(expected, sheet, count, mask);
+        CHECK(ranks(sheet, 17 * count, mask, expected));
+        /* a reading of another mask, wherever it stands, changes no line */
+        if (count < 13) {
+            const size_t at = 17 * below((uint32_t)count + 1);
+            memmove(sheet + at + 17, sheet + at, 17 * count - at);
+            put_reading(sheet + at, 1, (uint8_t)(mask ^ (1 + below(255))), availables[below(6)], any() & 0xFFFF);
+            CHECK(ranks(sheet, 17 * count + 17, mask, expected));
+        }
+    }
+}
+
+/* The longest sheet, in falling order of its counts. */
+static void test_ranking_falling(void)
+{
+    uint8_t *const big = malloc(65535);
+    char *const expected = malloc(MODEL_SHEET_TEXT + 1);
+    if (big == NULL || expected == NULL) {
+        abort();
+    }
+    size_t at = (size_t)sprintf(expected, HEADER);
+    for (unsigned i = 0; i < 3855; i++) {
+        put_reading(big + 17 * i, (uint8_t)(1 + i % 5), 0x2F, 0x7F, 17 * (3854 - i));
+        at += (size_t)sprintf(expected + at, "%u 2F 7F %u full\n", 1 + (3854 - i) % 5, 17 * i);
+    }
+    CHECK(ranks(big, 65535, 0x2F, expected));
+    CHECK(ranks(big, 65535, 0x08, HEADER));
+    free(big);
+    free(expected);
+}
+
 int main(int argc, char **argv)
 {
     if (argc != 2) {
@@ -1754,6 +1899,9 @@ int main(int argc, char **argv)
     test_server_worked();
     test_server_random();
     test_sheet();
+    test_ranking_worked();
+    test_ranking_random();
+    test_ranking_falling();
     printf("selftest of the %s: %lu checks passed\n", argv[1], checks);
     return 0;
 }

@@ -3,6 +3,7 @@ mod frames;
 mod identifier;
 mod node;
 mod parameter;
+mod ranking_text;
 mod sheet_text;
 mod trailer;
 mod vehicle;

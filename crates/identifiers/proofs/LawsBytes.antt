@@ -92,6 +92,10 @@ keeps-length {a} {b} {bytes} {at} p = ap length (p .holds) ∙ length-written a 
 pub puts-whole : {a b bytes : List ℕ} {end : ℕ} → length bytes ≤ length a → Puts a 0 bytes end b → take end b ≡ bytes
 puts-whole {a} {b} {bytes} h p = ap (λ (n : ℕ). take n b) (p .ends) ∙ ap (λ (l : List ℕ). take (0 + length bytes) l) (p .holds) ∙ take-written a 0 bytes (omega arith)
 
+-- what stands behind what was put is as it was
+pub puts-rest : {a b bytes : List ℕ} {at end : ℕ} → Puts a at bytes end b → drop end b ≡ drop end a
+puts-rest {a} {b} {bytes} {at} p = rw (p .ends, p .holds) (drop-written a at bytes)
+
 -- ---- loops
 -- a loop that copies a text byte by byte: one byte more
 pub copy-more : {a b : List ℕ} (text : List ℕ) (at i : ℕ) → i < length text → Puts a at (take i text) (at + i) b

@@ -12,6 +12,7 @@ use lib.Seq.{take-all}
 use Rattle.identifiers.specs.Below.{listBelow}
 use Rattle.identifiers.specs.Bytes.{Puts}
 use Rattle.identifiers.specs.Refusals.{refusal, numberOf}
+use Rattle.identifiers.proofs.LawsBytes.{puts-rest}
 use Rattle.text.specs.Digits.{decimal, hex, blank, newline, valueFrom, newlines}
 use Rattle.text.proofs.LawsDigits.{decimal-in}
 use Rattle.text.proofs.Texts.{decimal-says, hex-says}
@@ -29,7 +30,7 @@ use Rattle.sheet.proofs.LawsEarliest.{Earliest, earliest-then-lowest, e
 use Rattle.sheet.proofs.LawsReadings.{accepted-whole, accepted-length, whole-accepted}
 use Rattle.sheet.proofs.LawsStands.{Bytes, whole-stands, whole-sound, stands-whole, stands-reading, length-sheet, sheet-stands, each-sound, listed}
 use Rattle.sheet.proofs.LawsText.{newlines-line, newlines-refusal, newlines-table}
-use Rattle.sheet.proofs.LawsPrinted.{printed-accepted, printed-refused, print-whole, print-rest}
+use Rattle.sheet.proofs.LawsPrinted.{printed-accepted, printed-refused, print-whole}
 
 -- ---- an accepted sheet is whole readings of 17 bytes; a line for each follows the header, in order
 pub record AcceptedSheet (s : List ℕ) : Type 0 where
@@ -127,4 +128,4 @@ refused-sheet s why offset e =
 
 -- ---- the page: where it holds a text as `print`'s contract says, that is the whole text, and every byte after it is as it was
 pub page-holds : {page after : List ℕ} {end : ℕ} (s : List ℕ) → length page ≡ pageSize → Puts page 0 (printed s) end after → (take end after ≡ printed s) × (drop end after ≡ drop end page)
-page-holds s h p = (print-whole s h p, print-rest s p)
+page-holds s h p = (print-whole s h p, puts-rest p)

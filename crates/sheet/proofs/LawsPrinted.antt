@@ -1,13 +1,13 @@
 -- Laws of the whole text: what an accepted and a refused input print, and that it fits the page.
-use mathlib.Core.Path.{_≡_, refl, sym, ap, _∙_}
+use mathlib.Core.Path.{_≡_, refl, ap}
 use mathlib.Core.List.{List, _++_}
-use Prim.Native.Nat.{ℕ, zero, suc, _+_, _*_, _≤_}
+use Prim.Native.Nat.{ℕ, zero, suc, _*_, _≤_}
 use native.Mathlib.Omega.{arith}
-use lib.ListN.{length, length-append, take, drop}
+use lib.ListN.{length, length-append, take}
 use Rattle.identifiers.specs.Bytes.{Puts}
 use Rattle.identifiers.specs.Refusals.{numberOf}
 use Rattle.identifiers.proofs.LawsBelow.{list-none, list-suc}
-use Rattle.identifiers.proofs.LawsBytes.{drop-written, keeps-length, puts-whole}
+use Rattle.identifiers.proofs.LawsBytes.{keeps-length, puts-whole}
 use Rattle.text.specs.Digits.{decimalIn, hex, blank}
 use Rattle.text.proofs.LawsDigits.{length-decimal-in, length-hex}
 use Rattle.sheet.specs.Basis.{basisOf}
@@ -58,7 +58,7 @@ length-lines s zero = omega (arith, ap length (list-none (λ k. lineOf (readingO
 length-lines s (suc n) =
     omega (arith, ap length (list-suc (λ k. lineOf (readingOf s k)) n), length-append (linesOf s n) (lineOf (readingOf s n)), length-lines s n, length-line (readingOf s n))
 
-length-refusal : (n o : ℕ) → length (refusalLine n o) ≤ 23
+pub length-refusal : (n o : ℕ) → length (refusalLine n o) ≤ 23
 unfolding refusalLine
 length-refusal n o = simp length-append (omega (arith, length-decimal-in 5 n, length-decimal-in 5 o))
 
@@ -72,14 +72,15 @@ printed-fits s = by-answer (sheetRead s) refl
         omega (arith, ap length (printed-accepted s e), length-append header (linesOf s (readingsIn s)), length-lines s (readingsIn s), accepted-short s e)
     by-answer (Refused why o) e = omega (arith, ap length (printed-refused s why o e), length-refusal (numberOf why) o)
 
--- the place after the last byte lies in the page
+-- of a text that fits the page: the place after its last byte lies in the page, and the page up to there is the text, no more and no less
+pub text-fits : {page after text : List ℕ} {end : ℕ} → length text ≤ pageSize → length page ≡ pageSize → Puts page 0 text end after → end ≤ length after
+text-fits l h p = omega (arith, p .ends, keeps-length p)
+
+pub text-whole : {page after text : List ℕ} {end : ℕ} → length text ≤ pageSize → length page ≡ pageSize → Puts page 0 text end after → take end after ≡ text
+text-whole l h p = puts-whole (omega arith) p
+
 pub print-fits : {page after : List ℕ} {end : ℕ} (s : List ℕ) → length page ≡ pageSize → Puts page 0 (printed s) end after → end ≤ length after
-print-fits s h p = omega (arith, p .ends, printed-fits s, keeps-length p)
+print-fits s = text-fits (printed-fits s)
 
--- and the page up to there is the text, no more and no less
 pub print-whole : {page after : List ℕ} {end : ℕ} (s : List ℕ) → length page ≡ pageSize → Puts page 0 (printed s) end after → take end after ≡ printed s
-print-whole s h p = puts-whole (omega (arith, printed-fits s)) p
-
-pub print-rest : {page after : List ℕ} {end : ℕ} (s : List ℕ) → Puts page 0 (printed s) end after → drop end after ≡ drop end page
-print-rest {page} {after} s p =
-    ap (λ (n : ℕ). drop n after) (p .ends) ∙ ap (drop (0 + length (printed s))) (p .holds) ∙ drop-written page 0 (printed s) ∙ ap (λ (n : ℕ). drop n page) (sym (p .ends))
+print-whole s = text-whole (printed-fits s)

@@ -9,3 +9,10 @@ pub mod LawsEarliest
 pub mod LawsBasis
 pub mod Worked
 pub mod CountSheet
+pub mod LawsStanding
+pub mod LawsGathered
+pub mod LawsRanked
+pub mod LawsPages
+pub mod RankedPage
+pub mod RankedReadings
+pub mod WorkedPage

@@ -45,7 +45,7 @@ pub record Worked : Type 0 where
   pub refused : printed (first ++ (0x01 ∷ [])) ≡ 114 ∷ 101 ∷ 102 ∷ 117 ∷ 115 ∷ 101 ∷ 100 ∷ 32 ∷ 50 ∷ 50 ∷ 32 ∷ 97 ∷ 116 ∷ 32 ∷ 49 ∷ 55 ∷ 10 ∷ []
 
 -- both masks of the example keep the mask rule
-sound-7F : soundMask 0x7F ≡ true
+pub sound-7F : soundMask 0x7F ≡ true
 sound-7F = mask-rule 0x7F .1 (refl, ((λ (e : _≡_ {A = ℕ} 6 4). omega arith), inr refl))
 
 sound-4B : soundMask 0x4B ≡ true

@@ -5,3 +5,6 @@ pub mod Readings
 pub mod Basis
 pub mod Text
 pub mod Printed
+pub mod Ranked
+pub mod Standing
+pub mod Pages

@@ -1,8 +1,9 @@
-// The count sheet: its input read field by field, and its text printed into a lent page.
+// The count sheet: its input read field by field, and its text, or the page of one mask, printed into a lent page.
 mod basis;
 mod fields;
 mod line;
 mod printing;
+mod ranking;
 mod reader;
 mod reading;
 mod sheet_read;
@@ -11,6 +12,7 @@ pub use basis::Basis;
 pub use basis::basis_of;
 pub use printing::PAGE;
 pub use printing::print;
+pub use ranking::rank;
 pub use reader::read_sheet;
 pub use sheet_read::SheetRead;
 pub use sheet_read::SheetReadTold;

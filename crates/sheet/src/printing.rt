@@ -3,7 +3,7 @@ ghost use mathlib.Core.Path.{_≡_};
 ghost use Prim.Native.Nat.{_+_, _*_, _≤_};
 ghost use lib.ListN.{length};
 ghost use Rattle.identifiers.specs.Bytes.{Puts};
-ghost use Rattle.sheet.specs.Text.{pageSize, refusalLine};
+ghost use Rattle.sheet.specs.Text.{pageSize, header, refusalLine};
 ghost use Rattle.sheet.specs.Printed.{linesOf, printed};
 use crate::line::put_line;
 use crate::reader::read_sheet;
@@ -18,13 +18,20 @@ use text::put_decimal;
 pub const PAGE: usize = 88701;
 
 // A page has as many bytes as its type says. That is told of an array by value alone; the compiler leaves the copy out.
-fn measured(page: [u8; PAGE]) -> usize
+pub fn measured(page: [u8; PAGE]) -> usize
     ensures { λ r. ⌜ (r ≡ pageSize) × (length page ≡ pageSize) ⌝ }
 {
     PAGE
 }
 
-fn put_lines(page: &mut [u8], start: usize, input: &[u8], readings: usize) -> usize
+pub fn put_header(page: &mut [u8]) -> usize
+    requires { ⌜ 36 ≤ length (now page) ⌝ }
+    ensures { λ r. ⌜ Puts (now (page .entry)) 0 header r (now (page .exit)) ⌝ }
+{
+    put(page, 0, b"position mask available count basis\n")
+}
+
+pub fn put_lines(page: &mut [u8; PAGE], start: usize, input: &[u8], readings: usize) -> usize
     requires { ⌜ (17 * readings ≤ length (now input)) × (start + 23 * readings ≤ length (now page)) ⌝ }
     ensures { λ r. ⌜ Puts (now (page .entry)) start (linesOf (now (input .entry)) readings) r (now (page .exit)) ⌝ }
 {
@@ -37,7 +44,7 @@ fn put_lines(page: &mut [u8], start: usize, input: &[u8], readings: usize) -> us
     at
 }
 
-fn put_refusal(page: &mut [u8], number: u8, offset: usize) -> usize
+pub fn put_refusal(page: &mut [u8], number: u8, offset: usize) -> usize
     requires { ⌜ (23 ≤ length (now page)) × (offset ≤ 65535) ⌝ }
     ensures { λ r. ⌜ Puts (now (page .entry)) 0 (refusalLine number offset) r (now (page .exit)) ⌝ }
 {
@@ -55,7 +62,7 @@ pub fn print(input: &[u8], page: &mut [u8; PAGE]) -> usize
     measured(*page);
     match read_sheet(input) {
         SheetRead::Accepted => {
-            let at = put(page, 0, b"position mask available count basis\n");
+            let at = put_header(page);
             put_lines(page, at, input, input.len() / READING_SIZE)
         }
         SheetRead::Refused(why, offset) => put_refusal(page, why.number(), offset),

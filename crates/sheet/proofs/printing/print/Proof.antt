@@ -3,7 +3,6 @@ use mathlib.Core.Path.{sym, _∙_}
 use native.Mathlib.Omega.{arith}
 use borrow.Author.Needs.{needs}
 use Rattle.identifiers.proofs.LawsBytes.{keeps-length, _▸_}
-use Rattle.text.proofs.LawsPutting.{put-fits}
 use Rattle.sheet.specs.Readings.{readingsIn}
 use Rattle.sheet.proofs.LawsSheets.{accepted-short}
 use Rattle.sheet.proofs.LawsEarliest.{refused-small}
@@ -14,12 +13,11 @@ use Rattle.sheet.proofs.printing.print.Tie as tie
 put-lines-requires : tie.Need-put-lines-requires
 put-lines-requires c κs =
     let at1 = c .before in
-    let at2 = at1 .before .before .before in
+    let at2 = at1 .before .before in
     let at3 = at2 .before .before in
-    let size = at3 .before .measured .ensures .1 in
-    let header = put-fits (omega (arith, size)) (at1 .put .ensures) in
+    let header = at1 .put-header .ensures in
     let short = accepted-short _ (sym (at3 .read-sheet .ensures) ∙ (at2 .enum-told .given .1)) in
-    (omega (arith, short), omega (arith, short, size, header .ends, keeps-length header))
+    (omega (arith, short), omega (arith, short, at3 .before .measured .ensures .1, header .ends, keeps-length header))
 
 put-refusal-requires : tie.Need-put-refusal-requires
 put-refusal-requires c κs =
@@ -31,10 +29,8 @@ returns : tie.Need-returns
 unfolding readingsIn
 returns c =
     let at1 = c .before .before in
-    let at2 = at1 .before .before .before in
-    let at3 = at2 .before .before in
-    let header = put-fits (omega (arith, at3 .before .measured .ensures .1)) (at1 .put .ensures) in
-    rw (printed-accepted _ (sym (at3 .read-sheet .ensures) ∙ (at2 .enum-told .given .1))) (header ▸ c .put-lines .ensures)
+    let at2 = at1 .before .before in
+    rw (printed-accepted _ (sym (at2 .before .before .read-sheet .ensures) ∙ (at2 .enum-told .given .1))) (at1 .put-header .ensures ▸ c .put-lines .ensures)
 
 returns-2 : tie.Need-returns-2
 returns-2 c =
@@ -49,8 +45,7 @@ print-spec =
     (λ c κs. tt)
     (λ c κs. tt)
     (λ c. search needs)
-    (λ c. search needs)
-    (λ c κs. tt)
+    (λ c κs. omega (arith, c .before .before .before .before .measured .ensures .1))
     put-lines-requires
     (λ c. search needs)
     (λ c κs. tt)

@@ -24,22 +24,18 @@ loop-holds c = (search needs, rw (list-none _) (puts-none _ _))
 put-line-requires : tie.Need-put-line-requires Inv-loop μ-loop
 put-line-requires c κs =
     let at-loop = c .before .before .before in
-    let entry = at-loop .before .before .before in
+    let entry = at-loop .before .before in
     let p = at-loop .loop .inv .1 in
     (omega (arith, p .ends, keeps-length p, length-lines (entry .args .input .now) (at-loop .loop .number)), c .reading-of .ensures .1)
 
 loop-again : tie.Need-loop-again Inv-loop μ-loop
 loop-again c =
-    let at1 = c .before .before in
-    let at-loop = at1 .before .before .before .before in
-    (search needs, turn _ _ (at-loop .loop .inv .1) (ap lineOf (at1 .before .reading-of .ensures .0)) (at1 .put-line .ensures))
-
-same-length : tie.Need-same-length Inv-loop μ-loop
-same-length c = keeps-length (c .before .loop .inv .1)
+    let at-loop = c .before .before .before .before in
+    (search needs, turn _ _ (at-loop .loop .inv .1) (ap lineOf (c .before .reading-of .ensures .0)) (c .put-line .ensures))
 
 returns : tie.Need-returns Inv-loop μ-loop
 returns c =
-    let entry = c .before .before .before .before in
+    let entry = c .before .before .before in
     let e : (entry .args .readings) ≡ (c .before .loop .number) = omega arith in rw e (c .before .loop .inv .1)
 
 pub put-lines-spec : {M : Type 1} → statement M
@@ -54,5 +50,4 @@ put-lines-spec =
     (λ c. search needs)
     (λ c. search needs)
     loop-again
-    same-length
     returns)
