@@ -1,13 +1,14 @@
 -- Laws of the page of one mask: which test each of its two halves passes, and that its properties fix both.
 use mathlib.Core.Path.{_≡_, refl, sym, _∙_}
 use mathlib.Core.Bool.{Bool, true, false, not, true≢false, false≢true}
-use mathlib.Core.List.{List}
+use mathlib.Core.List.{List, _++_}
 use mathlib.Core.Logic.{⊎-elim, inr}
 use Prim.Native.Nat.{ℕ, _+_, _≤_, _<_}
 use native.Mathlib.Nat.{eq-zero-or-pos}
 use native.Mathlib.Omega.{arith}
-use borrow.Author.Tests.{eq-eqb, eqb-true}
-use lib.Dec.{eqb}
+use borrow.Author.Tests.{eq-eqb, eqb-true, ltb-true, ltb-false}
+use lib.Bits.{and-zero-l}
+use lib.Dec.{eqb, ltb}
 use Rattle.identifiers.specs.Choice.{pick, both}
 use Rattle.identifiers.proofs.LawsChoice.{pick-true, pick-false, both-true, so}
 use Rattle.order.specs.Ranks.{times, Ranks}
@@ -17,6 +18,7 @@ use Rattle.sheet.specs.Ranked.{isFull, asks, ranks, excludes}
 use Rattle.sheet.specs.Pages.{maskAt, countAt, basisAt, Page}
 use Rattle.sheet.specs.declared.basis.Basis.{Basis}
 use Rattle.sheet.specs.declared.basis.Basis.the-variants.{None, Full, Part}
+use Rattle.sheet.proofs.LawsBasis.{basis-exactly}
 
 -- ---- the tests
 full-is : (b : Basis) → isFull b ≡ true → b ≡ Full
@@ -35,6 +37,12 @@ one-of true true = refl
 one-of true false = refl
 one-of false b = refl
 
+unless-ranked : (a b : Bool) → both a b ≡ false → both a (not b) ≡ a
+unfolding both
+unless-ranked true true e = sym e
+unless-ranked true false e = refl
+unless-ranked false b e = refl
+
 module _ (s : List ℕ) (mask k : ℕ) where
   pub ranks-is : ranks mask (readingOf s k) ≡ true → (maskAt s k ≡ mask) × (basisAt s k ≡ Full)
   unfolding ranks asks
@@ -48,6 +56,10 @@ module _ (s : List ℕ) (mask k : ℕ) where
   pub in-one-half : pick (ranks mask (readingOf s k)) 1 0 + pick (excludes mask (readingOf s k)) 1 0 ≡ pick (eqb (maskAt s k) mask) 1 0
   unfolding ranks excludes asks
   in-one-half = one-of (eqb (maskAt s k) mask) (isFull (basisAt s k))
+
+pub was-picked : (b : Bool) → 0 < pick b 1 0 → b ≡ true
+was-picked true h = refl
+was-picked false h = absurd (omega (arith, pick-false {A = ℕ} {t = false} 1 0 refl))
 
 at-most-one : (b : Bool) → pick b 1 0 ≤ 1
 unfolding pick
@@ -84,3 +96,28 @@ module _ (s : List ℕ) (mask : ℕ) {above below : List ℕ} (p : Page s mask a
 
   pub below-ranks : Ranks (λ k. excludes mask (readingOf s k)) (λ k. 0) (readingsIn s) below
   below-ranks = record { each-once = λ k l. halves k l .1; nothing-else = λ k l. past k l .1; in-order = λ i j h. inr (refl, p .sheet-order i j h) }
+
+  -- what stands on it is a reading of the sheet, and of the mask
+  pub stands-within : (k : ℕ) → 0 < times k (above ++ below) → k < readingsIn s
+  stands-within k h = by-test (ltb k (readingsIn s)) refl
+    where
+      by-test : (b : Bool) → ltb k (readingsIn s) ≡ b → k < readingsIn s
+      by-test true e = ltb-true _ _ e
+      by-test false e = absurd (omega (arith, p .nothing-else k (ltb-false _ _ e)))
+
+  pub asked-at : (k : ℕ) → k < readingsIn s → 0 < times k (above ++ below) → maskAt s k ≡ mask
+  asked-at k l h = eqb-true _ _ (was-picked _ (rw (p .appears-once k l) at h))
+
+-- ---- mask 00
+pub none-ranked : (s : List ℕ) (k : ℕ) → ranks 0 (readingOf s k) ≡ false
+none-ranked s k = by-test (ranks 0 (readingOf s k)) refl
+  where
+    by-test : (b : Bool) → ranks 0 (readingOf s k) ≡ b → b ≡ false
+    by-test true e =
+        let h = ranks-is s 0 k e in
+        absurd (basis-exactly (maskAt s k) (readingOf s k .available) Full .0 (h .1) .0 (rw (h .0) (and-zero-l (readingOf s k .available))))
+    by-test false e = refl
+
+pub all-excluded : (s : List ℕ) (k : ℕ) → excludes 0 (readingOf s k) ≡ asks 0 (readingOf s k)
+unfolding ranks excludes
+all-excluded s k = unless-ranked (asks 0 (readingOf s k)) (isFull (basisAt s k)) (none-ranked s k)

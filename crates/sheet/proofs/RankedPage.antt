@@ -1,22 +1,21 @@
 -- The page of one mask (document 02, 2026-01): it is what the sentences say, no other page is so, and what that means for the buyer. Each statement
 -- can be read without its proof; the sentences stand in specs/Pages.
 use mathlib.Core.Path.{_≡_, refl, sym, ap, ap₂, _∙_}
-use mathlib.Core.Bool.{Bool, true, false}
-use mathlib.Core.List.{List, [], _∷_, _++_, head-eq-of-cons-eq, tail-eq-of-cons-eq}
+use mathlib.Core.Bool.{Bool}
+use mathlib.Core.List.{List, [], _∷_, _++_}
 use Prim.Native.Nat.{ℕ, _+_, _<_}
 use native.Mathlib.Omega.{arith}
-use borrow.Author.Tests.{eq-eqb, eqb-true, ltb-true, ltb-false}
-use lib.Bits.{and-zero-l}
-use lib.Dec.{ltb}
+use borrow.Author.Tests.{eq-eqb}
 use lib.ListN.{length, take, drop}
 use Rattle.identifiers.specs.Choice.{pick}
 use Rattle.identifiers.specs.Bytes.{Puts}
-use Rattle.identifiers.proofs.LawsChoice.{pick-true, pick-false}
+use Rattle.identifiers.proofs.LawsBelow.{list-each}
+use Rattle.identifiers.proofs.LawsChoice.{pick-true}
 use Rattle.identifiers.proofs.LawsBytes.{puts-rest}
 use Rattle.order.specs.Order.{byKey}
 use Rattle.order.specs.Ranks.{times, Behind, Ranks}
 use Rattle.order.proofs.LawsKeep.{by-nil}
-use Rattle.order.proofs.LawsTimes.{times-here, times-append}
+use Rattle.order.proofs.LawsTimes.{times-here, times-append, in-front}
 use Rattle.order.proofs.LawsPlaces.{no-places, once, never-past}
 use Rattle.order.proofs.LawsOrdered.{places-ordered, two-of}
 use Rattle.order.proofs.RankedPlaces as rankings
@@ -24,21 +23,16 @@ use Rattle.sheet.specs.Sheets.{sheetRead}
 use Rattle.sheet.specs.Readings.{readingsIn, readingOf}
 use Rattle.sheet.specs.Text.{pageSize, header}
 use Rattle.sheet.specs.Printed.{printed}
-use Rattle.sheet.specs.Ranked.{ranks, excludes, placesOf, ranked, excluded, linesAt, rankedText}
-use Rattle.sheet.specs.Pages.{maskAt, countAt, basisAt, Page}
+use Rattle.sheet.specs.Ranked.{asks, ranks, excludes, placesOf, ranked, excluded, linesAt, rankedText}
+use Rattle.sheet.specs.Pages.{countAt, basisAt, Page}
 use Rattle.identifiers.specs.declared.refusal.Refusal.{Refusal}
 use Rattle.sheet.specs.declared.basis.Basis.the-variants.{Full}
 use Rattle.sheet.specs.declared.sheet_read.SheetRead.the-variants.{Accepted, Refused}
-use Rattle.sheet.proofs.LawsBasis.{basis-exactly}
 use Rattle.sheet.proofs.LawsStands.{Bytes}
 use Rattle.sheet.proofs.LawsStanding.{count-small}
-use Rattle.sheet.proofs.LawsPages.{ranks-is, is-ranks, in-one-half, above-ranks, below-ranks}
+use Rattle.sheet.proofs.LawsPages.{ranks-is, is-ranks, in-one-half, was-picked, above-ranks, below-ranks, stands-within, asked-at, none-ranked, all-excluded}
 use Rattle.sheet.proofs.LawsPrinted.{printed-refused}
 use Rattle.sheet.proofs.LawsRanked.{ranked-accepted, ranked-refused, rank-whole}
-
-was-picked : (b : Bool) → 0 < pick b 1 0 → b ≡ true
-was-picked true h = refl
-was-picked false h = absurd (omega (arith, pick-false {A = ℕ} {t = false} 1 0 refl))
 
 -- ---- the page is so, and no other page is
 module _ (s : List ℕ) (mask : ℕ) (bytes : Bytes s) where
@@ -70,26 +64,6 @@ module _ (s : List ℕ) (mask : ℕ) (bytes : Bytes s) where
   page-text e p = let same = one-page p in ranked-accepted s mask e ∙ sym (ap₂ (λ (r e : List ℕ). header ++ linesAt s (r ++ e)) (same .0) (same .1))
 
 -- ---- a reading that is not full never stands above one that is
--- what stands in front of a place of the first list, in two lists in a row, is of the first list
-in-front : (i j : ℕ) (above below a b c : List ℕ) → above ++ below ≡ a ++ (i ∷ (b ++ (j ∷ c))) → times j below ≡ 0 → 0 < times i above
-in-front i j [] below a b c e none =
-    absurd
-    (omega
-    (arith, ap (times j) e, times-append j a (i ∷ (b ++ (j ∷ c))), times-append j (i ∷ []) (b ++ (j ∷ c)), times-append j b (j ∷ c), times-here j j c refl))
-in-front i j (x ∷ above) below [] b c e none = omega (arith, times-here i x above (sym (head-eq-of-cons-eq e)))
-in-front i j (x ∷ above) below (y ∷ a) b c e none =
-    omega (arith, times-append i (x ∷ []) above, in-front i j above below a b c (tail-eq-of-cons-eq e) none)
-
-stands-below : (s : List ℕ) (mask : ℕ) {above below : List ℕ} → Page s mask above below → (k : ℕ) → 0 < times k (above ++ below) → k < readingsIn s
-stands-below s mask p k h = by-test (ltb k (readingsIn s)) refl
-  where
-    by-test : (b : Bool) → ltb k (readingsIn s) ≡ b → k < readingsIn s
-    by-test true e = ltb-true _ _ e
-    by-test false e = absurd (omega (arith, p .nothing-else k (ltb-false _ _ e)))
-
-asked-at : (s : List ℕ) (mask : ℕ) {above below : List ℕ} → Page s mask above below → (k : ℕ) → k < readingsIn s → 0 < times k (above ++ below) → maskAt s k ≡ mask
-asked-at s mask p k l h = eqb-true _ _ (was-picked _ (rw (p .appears-once k l) at h))
-
 pub full-above : (s : List ℕ) (mask : ℕ) {above below : List ℕ} → Page s mask above below → (i j : ℕ) → Behind (above ++ below) i j → basisAt s j ≡ Full → basisAt s i ≡ Full
 full-above s mask {above} {below} p i j h full =
     let a = h .0 in
@@ -99,26 +73,20 @@ full-above s mask {above} {below} p i j h full =
     let rest = times-append j a (i ∷ (b ++ (j ∷ c))) in
     let last = times-append j (i ∷ b) (j ∷ c) in
     let there : 0 < times j (above ++ below) = omega (arith, ap (times j) e, rest, last, times-here j j c refl) in
-    let l = stands-below s mask p j there in
+    let l = stands-within s mask p j there in
     let asked = asked-at s mask p j l there in
     let above-j : 0 < times j above = p .ranked-exactly j l .1 (asked, full) in
     let once-j : times j (above ++ below) ≡ 1 = p .appears-once j l ∙ pick-true 1 0 (eq-eqb _ _ asked) in
     let above-i = in-front i j above below a b c e (omega (arith, times-append j above below)) in
-    p .ranked-exactly i (stands-below s mask p i (omega (arith, times-append i above below))) .0 above-i .1
+    p .ranked-exactly i (stands-within s mask p i (omega (arith, times-append i above below))) .0 above-i .1
 
 -- ---- "Mask 00 always lists as excluded."
-none-ranked : (s : List ℕ) (k : ℕ) → ranks 0 (readingOf s k) ≡ false
-none-ranked s k = by-test (ranks 0 (readingOf s k)) refl
-  where
-    by-test : (b : Bool) → ranks 0 (readingOf s k) ≡ b → b ≡ false
-    by-test true e =
-        let h = ranks-is s 0 k e in
-        absurd (basis-exactly (maskAt s k) (readingOf s k .available) Full .0 (h .1) .0 (rw (h .0) (and-zero-l (readingOf s k .available))))
-    by-test false e = refl
-
-pub mask-00 : (s : List ℕ) → ranked s 0 ≡ []
-unfolding ranked
-mask-00 s = ap (byKey (countAt s) 65536) (no-places _ (readingsIn s) (none-ranked s)) ∙ by-nil (countAt s) 65536
+pub mask-00 : (s : List ℕ) → (ranked s 0 ≡ []) × (excluded s 0 ≡ placesOf (asks 0) s)
+unfolding ranked excluded
+mask-00 s = (
+  ap (byKey (countAt s) 65536) (no-places _ (readingsIn s) (none-ranked s)) ∙ by-nil (countAt s) 65536,
+  list-each _ _ (readingsIn s) (λ k l. ap (λ (t : Bool). pick t (k ∷ []) []) (all-excluded s k)),
+)
 
 -- ---- "Refusals: those of the sheet, 21 to 24.": the count sheet's own line, whatever the mask
 pub refused-page : (s : List ℕ) (mask : ℕ) (why : Refusal) (offset : ℕ) → sheetRead s ≡ Refused why offset → rankedText s mask ≡ printed s
