@@ -14,7 +14,7 @@ use Rattle.identifiers.proofs.LawsChoice.{pick-true, pick-false, both-true, so}
 use Rattle.order.specs.Ranks.{times, Ranks}
 use Rattle.order.proofs.LawsTimes.{times-append}
 use Rattle.sheet.specs.Readings.{readingsIn, readingOf}
-use Rattle.sheet.specs.Ranked.{isFull, asks, ranks, excludes}
+use Rattle.sheet.specs.Ranked.{isFull, basisFull, asks, ranks, excludes}
 use Rattle.sheet.specs.Pages.{maskAt, countAt, basisAt, Page}
 use Rattle.sheet.specs.declared.basis.Basis.{Basis}
 use Rattle.sheet.specs.declared.basis.Basis.the-variants.{None, Full, Part}
@@ -55,7 +55,7 @@ module _ (s : List ℕ) (mask k : ℕ) where
   -- a reading of the mask is in one half of the page, another reading in none
   pub in-one-half : pick (ranks mask (readingOf s k)) 1 0 + pick (excludes mask (readingOf s k)) 1 0 ≡ pick (eqb (maskAt s k) mask) 1 0
   unfolding ranks excludes asks
-  in-one-half = one-of (eqb (maskAt s k) mask) (isFull (basisAt s k))
+  in-one-half = one-of (eqb (maskAt s k) mask) (basisFull (readingOf s k))
 
 pub was-picked : (b : Bool) → 0 < pick b 1 0 → b ≡ true
 was-picked true h = refl
@@ -120,4 +120,4 @@ none-ranked s k = by-test (ranks 0 (readingOf s k)) refl
 
 pub all-excluded : (s : List ℕ) (k : ℕ) → excludes 0 (readingOf s k) ≡ asks 0 (readingOf s k)
 unfolding ranks excludes
-all-excluded s k = unless-ranked (asks 0 (readingOf s k)) (isFull (basisAt s k)) (none-ranked s k)
+all-excluded s k = unless-ranked (asks 0 (readingOf s k)) (basisFull (readingOf s k)) (none-ranked s k)

@@ -7,16 +7,14 @@ use Prim.Native.Nat.{ℕ, _+_, _<_}
 use native.Mathlib.Omega.{arith}
 use borrow.Author.Tests.{eq-eqb}
 use lib.ListN.{length, take, drop}
-use Rattle.identifiers.specs.Choice.{pick}
 use Rattle.identifiers.specs.Bytes.{Puts}
-use Rattle.identifiers.proofs.LawsBelow.{list-each}
 use Rattle.identifiers.proofs.LawsChoice.{pick-true}
 use Rattle.identifiers.proofs.LawsBytes.{puts-rest}
 use Rattle.order.specs.Order.{byKey}
 use Rattle.order.specs.Ranks.{times, Behind, Ranks}
 use Rattle.order.proofs.LawsKeep.{by-nil}
 use Rattle.order.proofs.LawsTimes.{times-here, times-append, in-front}
-use Rattle.order.proofs.LawsPlaces.{no-places, once, never-past}
+use Rattle.order.proofs.LawsPlaces.{no-places, places-same, once, never-past}
 use Rattle.order.proofs.LawsOrdered.{places-ordered, two-of}
 use Rattle.order.proofs.RankedPlaces as rankings
 use Rattle.sheet.specs.Sheets.{sheetRead}
@@ -85,7 +83,7 @@ pub mask-00 : (s : List ℕ) → (ranked s 0 ≡ []) × (excluded s 0 ≡ places
 unfolding ranked excluded
 mask-00 s = (
   ap (byKey (countAt s) 65536) (no-places _ (readingsIn s) (none-ranked s)) ∙ by-nil (countAt s) 65536,
-  list-each _ _ (readingsIn s) (λ k l. ap (λ (t : Bool). pick t (k ∷ []) []) (all-excluded s k)),
+  places-same _ _ (readingsIn s) (all-excluded s),
 )
 
 -- ---- "Refusals: those of the sheet, 21 to 24.": the count sheet's own line, whatever the mask

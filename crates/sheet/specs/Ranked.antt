@@ -25,11 +25,14 @@ isFull Part = false
 unfoldable pub asks : ℕ → CountReading → Bool
 asks mask r = eqb (r .mask) mask
 
+abbrev pub basisFull : CountReading → Bool
+basisFull r = isFull (basisOf (r .mask) (r .available))
+
 unfoldable pub ranks : ℕ → CountReading → Bool
-ranks mask r = both (asks mask r) (isFull (basisOf (r .mask) (r .available)))
+ranks mask r = both (asks mask r) (basisFull r)
 
 unfoldable pub excludes : ℕ → CountReading → Bool
-excludes mask r = both (asks mask r) (not (isFull (basisOf (r .mask) (r .available))))
+excludes mask r = both (asks mask r) (not (basisFull r))
 
 -- the places of the readings that pass a test, "in sheet order"
 abbrev pub placesOf : (CountReading → Bool) → List ℕ → List ℕ

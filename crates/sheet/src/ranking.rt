@@ -32,9 +32,10 @@ fn standing(reading: CountReading) -> u32
     requires { ⌜ reading .count < 65536 ⌝ }
     ensures { λ r. ⌜ r ≡ standingOf reading ⌝ }
 {
+    let count = reading.count as u32;
     match basis_of(reading.mask, reading.available) {
         Basis::None => BEHIND,
-        Basis::Full => reading.count as u32,
+        Basis::Full => count,
         Basis::Part => BEHIND,
     }
 }

@@ -10,26 +10,26 @@ returns : tie.Need-returns
 unfolding isFull
 returns c =
     let at1 = c .before .before in
-    sym (other-stands (at1 .before .args .reading) (ap isFull (sym (at1 .basis-of .ensures) ∙ c .enum-told .given .1)))
+    sym (other-stands (at1 .before .before .args .reading) (ap isFull (sym (at1 .basis-of .ensures) ∙ c .enum-told .given .1)))
 
 returns-2 : tie.Need-returns-2
 unfolding isFull
 returns-2 c =
-    let at1 = c .before .before .before in
-    sym (full-stands (at1 .before .args .reading) (ap isFull (sym (at1 .basis-of .ensures) ∙ c .before .enum-told2 .given .1)))
+    let at1 = c .before .before in
+    sym (full-stands (at1 .before .before .args .reading) (ap isFull (sym (at1 .basis-of .ensures) ∙ c .enum-told2 .given .1)))
 
 returns-3 : tie.Need-returns-3
 unfolding isFull
 returns-3 c =
     let at1 = c .before .before in
-    sym (other-stands (at1 .before .args .reading) (ap isFull (sym (at1 .basis-of .ensures) ∙ c .enum-told3 .given .1)))
+    sym (other-stands (at1 .before .before .args .reading) (ap isFull (sym (at1 .basis-of .ensures) ∙ c .enum-told3 .given .1)))
 
 pub standing-spec : {M : Type 1} → statement M
 standing-spec =
     tie.close
     (tie.spec
-    (λ c κs. tt)
     (λ c. search needs)
+    (λ c κs. tt)
     (λ c. search needs)
     (λ c. search needs)
     (λ c. search needs)
