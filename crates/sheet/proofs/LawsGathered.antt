@@ -20,7 +20,7 @@ use Rattle.sheet.specs.Readings.{readingsIn, readingOf}
 use Rattle.sheet.specs.Ranked.{asks, placesOf, ranked, excluded}
 use Rattle.sheet.specs.Standing.{standingOf}
 use Rattle.sheet.specs.declared.reading.CountReading.{CountReading}
-use Rattle.sheet.proofs.LawsStanding.{in-order}
+use Rattle.sheet.proofs.LawsStanding.{standing-order}
 
 -- ---- the test
 pub asked : {mask : ℕ} {r q : CountReading} → r ≡ q → r .mask ≡ mask → asks mask q ≡ true
@@ -78,4 +78,4 @@ module _ (s : List ℕ) (mask : ℕ) {a b : List ℕ} {found : ℕ} (places : Pu
         → ((k : ℕ) → readingOf s k .count < 65536) → sorted keys (take found b) ≡ ranked s mask ++ excluded s mask
     sorted-page keyed small =
         let each = each-place (λ k. asks mask (readingOf s k)) (readingsIn s) keyed in
-        by-keys ∙ by-same-each (keyIn keys) (λ k. standingOf (readingOf s k)) (2 ^ 32) (placesOf (asks mask) s) each ∙ in-order s mask small
+        by-keys ∙ by-same-each (keyIn keys) (λ k. standingOf (readingOf s k)) (2 ^ 32) (placesOf (asks mask) s) each ∙ standing-order s mask small

@@ -98,8 +98,8 @@ module _ (s : List ℕ) (mask : ℕ) {above below : List ℕ} (p : Page s mask a
   below-ranks = record { each-once = λ k l. halves k l .1; nothing-else = λ k l. past k l .1; in-order = λ i j h. inr (refl, p .sheet-order i j h) }
 
   -- what stands on it is a reading of the sheet, and of the mask
-  pub stands-within : (k : ℕ) → 0 < times k (above ++ below) → k < readingsIn s
-  stands-within k h = by-test (ltb k (readingsIn s)) refl
+  pub on-the-sheet : (k : ℕ) → 0 < times k (above ++ below) → k < readingsIn s
+  on-the-sheet k h = by-test (ltb k (readingsIn s)) refl
     where
       by-test : (b : Bool) → ltb k (readingsIn s) ≡ b → k < readingsIn s
       by-test true e = ltb-true _ _ e

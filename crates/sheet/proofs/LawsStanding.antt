@@ -49,8 +49,8 @@ excluded-at mask r l = by-basis (basisFull r) refl
     by-basis true e = rw (full-stands r e, e, ne-eqb (r .count) 65536 (λ q. omega arith))
     by-basis false e = rw (other-stands r e, e)
 
-stands-within : (r : CountReading) → r .count < 65536 → standingOf r < 65537
-stands-within r l = by-basis (basisFull r) refl
+standing-small : (r : CountReading) → r .count < 65536 → standingOf r < 65537
+standing-small r l = by-basis (basisFull r) refl
   where
     by-basis : (f : Bool) → basisFull r ≡ f → standingOf r < 65537
     by-basis true e = omega (arith, full-stands r e)
@@ -76,9 +76,9 @@ module _ (s : List ℕ) (mask : ℕ) (small : (k : ℕ) → readingOf s k .count
   unfolding asked standing excluded
   excluded-half = keep-places asked (λ k. eqb (standing k) 65536) (readingsIn s) ∙ places-same _ _ (readingsIn s) (λ k. excluded-at mask (readingOf s k) (small k))
 
-  pub in-order : byKey (λ k. standingOf (readingOf s k)) (2 ^ 32) (placesOf (asks mask) s) ≡ ranked s mask ++ excluded s mask
+  pub standing-order : byKey (λ k. standingOf (readingOf s k)) (2 ^ 32) (placesOf (asks mask) s) ≡ ranked s mask ++ excluded s mask
   unfolding standing
-  in-order =
-      by-enough standing 65537 (2 ^ 32) (placesOf (asks mask) s) (each-all (λ k. stands-within (readingOf s k) (small k)) (placesOf (asks mask) s)) (omega arith)
+  standing-order =
+      by-enough standing 65537 (2 ^ 32) (placesOf (asks mask) s) (each-all (λ k. standing-small (readingOf s k) (small k)) (placesOf (asks mask) s)) (omega arith)
       ∙ by-suc standing 65536 (placesOf (asks mask) s)
       ∙ ap₂ _++_ ranked-half excluded-half

@@ -28,7 +28,7 @@ use Rattle.sheet.specs.declared.basis.Basis.the-variants.{Full}
 use Rattle.sheet.specs.declared.sheet_read.SheetRead.the-variants.{Accepted, Refused}
 use Rattle.sheet.proofs.LawsStands.{Bytes}
 use Rattle.sheet.proofs.LawsStanding.{count-small}
-use Rattle.sheet.proofs.LawsPages.{ranks-is, is-ranks, in-one-half, was-picked, above-ranks, below-ranks, stands-within, asked-at, none-ranked, all-excluded}
+use Rattle.sheet.proofs.LawsPages.{ranks-is, is-ranks, in-one-half, was-picked, above-ranks, below-ranks, on-the-sheet, asked-at, none-ranked, all-excluded}
 use Rattle.sheet.proofs.LawsPrinted.{printed-refused}
 use Rattle.sheet.proofs.LawsRanked.{ranked-accepted, ranked-refused, rank-whole}
 
@@ -36,7 +36,7 @@ use Rattle.sheet.proofs.LawsRanked.{ranked-accepted, ranked-refused, ra
 module _ (s : List ℕ) (mask : ℕ) (bytes : Bytes s) where
   by-count : Ranks (λ k. ranks mask (readingOf s k)) (countAt s) (readingsIn s) (ranked s mask)
   unfolding ranked
-  by-count = rankings.ranks (λ k. ranks mask (readingOf s k)) (countAt s) (readingsIn s) 65536 (λ k l. count-small s bytes k)
+  by-count = rankings.by-key-ranks (λ k. ranks mask (readingOf s k)) (countAt s) (readingsIn s) 65536 (λ k l. count-small s bytes k)
 
   pub page : Page s mask (ranked s mask) (excluded s mask)
   unfolding excluded
@@ -71,12 +71,12 @@ full-above s mask {above} {below} p i j h full =
     let rest = times-append j a (i ∷ (b ++ (j ∷ c))) in
     let last = times-append j (i ∷ b) (j ∷ c) in
     let there : 0 < times j (above ++ below) = omega (arith, ap (times j) e, rest, last, times-here j j c refl) in
-    let l = stands-within s mask p j there in
+    let l = on-the-sheet s mask p j there in
     let asked = asked-at s mask p j l there in
     let above-j : 0 < times j above = p .ranked-exactly j l .1 (asked, full) in
     let once-j : times j (above ++ below) ≡ 1 = p .appears-once j l ∙ pick-true 1 0 (eq-eqb _ _ asked) in
     let above-i = in-front i j above below a b c e (omega (arith, times-append j above below)) in
-    p .ranked-exactly i (stands-within s mask p i (omega (arith, times-append i above below))) .0 above-i .1
+    p .ranked-exactly i (on-the-sheet s mask p i (omega (arith, times-append i above below))) .0 above-i .1
 
 -- ---- "Mask 00 always lists as excluded."
 pub mask-00 : (s : List ℕ) → (ranked s 0 ≡ []) × (excluded s 0 ≡ placesOf (asks 0) s)

@@ -59,9 +59,9 @@ written-page rs mask h l =
     ∙ ap (λ (x : List CountReading). header ++ lines x) (map-append (readingOf s) (ranked s mask) (excluded s mask) ∙ ap₂ _++_ above (all-places (excludes mask) rs h l))
 
 -- ---- a reading of another mask
-not-asked : (mask : ℕ) (r : CountReading) → (r .mask ≡ mask → ⊥) → (ranks mask r ≡ false) × (excludes mask r ≡ false)
+other-mask : (mask : ℕ) (r : CountReading) → (r .mask ≡ mask → ⊥) → (ranks mask r ≡ false) × (excludes mask r ≡ false)
 unfolding asks ranks excludes
-not-asked mask r n = let e = ne-eqb _ _ n in (sym (stop _ e), sym (stop _ e))
+other-mask mask r n = let e = ne-eqb _ _ n in (sym (stop _ e), sym (stop _ e))
 
 keep-without : (p : CountReading → Bool) (r : CountReading) (rs qs : List CountReading) → p r ≡ false → keep p (rs ++ (r ∷ qs)) ≡ keep p (rs ++ qs)
 keep-without p r rs qs e =
@@ -75,7 +75,7 @@ pub others-change-nothing : (mask : ℕ) (r : CountReading) (rs qs : List CountR
     → (r .mask ≡ mask → ⊥) → rankedText (sheetOf (rs ++ (r ∷ qs))) mask ≡ rankedText (sheetOf (rs ++ qs)) mask
 others-change-nothing mask r rs qs h l n =
     let fewer : length (rs ++ qs) ≤ 3855 = omega (arith, length-append rs (r ∷ qs), length-append rs qs) in
-    let out = not-asked mask r n in
+    let out = other-mask mask r n in
     written-page (rs ++ (r ∷ qs)) mask h l
     ∙ ap₂ (λ (x y : List CountReading). header ++ lines (byKey (λ r. r .count) 65536 x ++ y)) (keep-without (ranks mask) r rs qs (out .0)) (keep-without (excludes mask) r rs qs (out .1))
     ∙ sym (written-page (rs ++ qs) mask (sound-without r rs qs h) fewer)
