@@ -1,8 +1,8 @@
--- Laws of the first field that refuses: none yet, one more that accepts, the one that stops, and what the whole says of each.
-use mathlib.Core.Path.{_≡_, refl, sym, ap, _∙_}
+-- Laws of the first field that refuses: none yet, one more, the one that stops, what the whole says of each, and the three of a reading.
+use mathlib.Core.Path.{_≡_, refl, sym, ap, ap₂, _∙_}
 use mathlib.Core.List.{List}
 use mathlib.Core.Logic.{⊎-elim}
-use Prim.Native.Nat.{ℕ, zero, suc, _+_, _≤_, _<_}
+use Prim.Native.Nat.{ℕ, zero, suc, _+_, _*_, _/_, _%_, _≤_, _<_}
 use native.Mathlib.Nat.{eq-or-lt-of-le}
 use native.Mathlib.Numerals.{add-one}
 use native.Mathlib.Omega.{arith}
@@ -10,7 +10,8 @@ use borrow.Author.Tests.{ltb-false, lt-ltb, le-ltb}
 use lib.ListN.{length}
 use Rattle.identifiers.specs.Refusals.{refusal}
 use Rattle.identifiers.proofs.LawsChoice.{pick-true, pick-false, was-passed}
-use Rattle.sheet.specs.Sheets.{fieldAt, fieldsBegun, orNext, firstRefused, sheetRead}
+use Rattle.sheet.specs.Fields.{fieldRead}
+use Rattle.sheet.specs.Sheets.{fieldOffset, fieldTag, fieldAt, fieldsBegun, orNext, readingRead, firstRefused, sheetRead}
 use Rattle.identifiers.specs.declared.refusal.Refusal.{Refusal}
 use Rattle.sheet.specs.declared.sheet_read.SheetRead.{SheetRead}
 use Rattle.sheet.specs.declared.sheet_read.SheetRead.the-variants.{Accepted, Refused}
@@ -21,15 +22,19 @@ pub first-none : (f : ℕ → SheetRead) → firstRefused f 0 ≡ Accepted
 unfolding firstRefused
 first-none f = refl
 
-pub first-more : (f : ℕ → SheetRead) (n : ℕ) → firstRefused f n ≡ Accepted → f n ≡ Accepted → firstRefused f (n + 1) ≡ Accepted
+first-suc : (f : ℕ → SheetRead) (n : ℕ) → firstRefused f (n + 1) ≡ orNext (firstRefused f n) (f n)
+unfolding firstRefused
+first-suc f n = rw (add-one n)
+
+pub first-stays : (f : ℕ → SheetRead) (i n : ℕ) (why : Refusal) (o : ℕ) → i ≤ n → firstRefused f i ≡ Refused why o → firstRefused f n ≡ Refused why o
 unfolding firstRefused orNext
-first-more f n h e = rw (add-one n, h) e
+first-stays f i zero why o l e = let z : i ≡ zero = omega arith in rw z at e
+first-stays f i (suc n) why o l e =
+    ⊎-elim (λ (q : i ≡ suc n). rw q at e) (λ (q : i < suc n). rw (first-stays f i n why o (omega arith) e)) (eq-or-lt-of-le l)
 
 pub first-stops : (f : ℕ → SheetRead) (i n : ℕ) (why : Refusal) (o : ℕ) → i < n → firstRefused f i ≡ Accepted → f i ≡ Refused why o → firstRefused f n ≡ Refused why o
-unfolding firstRefused orNext
-first-stops f i zero why o l h e = absurd (omega arith)
-first-stops f i (suc n) why o l h e =
-    ⊎-elim (λ (q : i ≡ n). rw (← q, h) e) (λ (q : i < n). rw (first-stops f i n why o q h e)) (eq-or-lt-of-le (omega arith))
+unfolding orNext
+first-stops f i n why o l h e = first-stays f (i + 1) n why o (omega arith) (rw (first-suc f i, h) e)
 
 pub first-each : (f : ℕ → SheetRead) (n : ℕ) → ((i : ℕ) → i < n → f i ≡ Accepted) → firstRefused f n ≡ Accepted
 unfolding firstRefused orNext
@@ -69,6 +74,17 @@ first-of f (suc n) why o e = by-answer (firstRefused f n) refl (first-of f n why
         record { place = r .place; below = omega (arith, r .below); earlier = r .earlier; refused = r .refused }
 
 -- ---- the whole input
+-- behind the fields of the readings before an offset, those of the reading there
+pub first-reading : (s : List ℕ) (at : ℕ) → at % 17 ≡ 0 → firstRefused (fieldAt s) (3 * (at / 17)) ≡ Accepted → firstRefused (fieldAt s) (3 * ((at + 17) / 17)) ≡ readingRead s at
+unfolding fieldAt fieldOffset fieldTag orNext readingRead
+first-reading s at whole h =
+    let n = 3 * (at / 17) in
+    let e : 3 * ((at + 17) / 17) ≡ n + 1 + 1 + 1 = omega arith in
+    let position : fieldAt s n ≡ fieldRead s at 1 = ap₂ (fieldRead s) (omega arith) (omega arith) in
+    let mask : fieldAt s (n + 1) ≡ fieldRead s (at + 4) 2 = ap₂ (fieldRead s) (omega arith) (omega arith) in
+    let response : fieldAt s (n + 1 + 1) ≡ fieldRead s (at + 8) 3 = ap₂ (fieldRead s) (omega arith) (omega arith) in
+    rw (e, first-suc (fieldAt s) (n + 1 + 1), first-suc (fieldAt s) (n + 1), first-suc (fieldAt s) n, h) (ap₂ orNext (ap₂ orNext position mask) response)
+
 pub sheet-21 : (s : List ℕ) → 65535 < length s → sheetRead s ≡ Refused (refusal 21) 0
 unfolding sheetRead
 sheet-21 s h = pick-true _ _ (lt-ltb _ _ h)

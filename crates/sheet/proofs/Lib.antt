@@ -2,6 +2,7 @@
 pub mod LawsFields
 pub mod LawsSheets
 pub mod LawsText
+pub mod LawsLeading
 pub mod LawsPrinted
 pub mod LawsReadings
 pub mod LawsStands

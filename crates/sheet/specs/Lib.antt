@@ -3,6 +3,7 @@ pub mod Fields
 pub mod Sheets
 pub mod Readings
 pub mod Basis
+pub mod Leading
 pub mod Text
 pub mod Printed
 pub mod Ranked

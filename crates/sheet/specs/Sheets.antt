@@ -30,6 +30,10 @@ unfoldable pub orNext : SheetRead → SheetRead → SheetRead
 orNext Accepted next = next
 orNext (Refused why offset) next = Refused why offset
 
+-- the three fields of the reading at an offset
+unfoldable pub readingRead : List ℕ → ℕ → SheetRead
+readingRead s at = orNext (orNext (fieldRead s at 1) (fieldRead s (at + 4) 2)) (fieldRead s (at + 8) 3)
+
 -- the first of f 0, f 1, .. f (n - 1) that refuses
 unfoldable pub firstRefused : (ℕ → SheetRead) → ℕ → SheetRead
 firstRefused f zero = Accepted

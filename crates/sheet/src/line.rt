@@ -4,12 +4,12 @@ ghost use Prim.Native.Nat.{_+_, _≤_, _<_};
 ghost use lib.ListN.{length};
 ghost use Rattle.identifiers.specs.Bytes.{Puts};
 ghost use Rattle.text.specs.Digits.{decimalIn, hex, blank};
+ghost use Rattle.sheet.specs.Leading.{leadingDigit};
 ghost use Rattle.sheet.specs.Text.{wordOf, numbersOf, lineOf};
 use crate::basis::Basis;
 use crate::basis::basis_of;
 use crate::reading::CountReading;
 use text::put;
-use text::put_decimal;
 use text::put_hex;
 
 fn put_basis(page: &mut [u8], at: usize, basis: Basis) -> usize
@@ -23,12 +23,29 @@ fn put_basis(page: &mut [u8], at: usize, basis: Basis) -> usize
     }
 }
 
-// A number and a blank, where there is room for six bytes.
-fn put_number(page: &mut [u8], at: usize, number: usize) -> usize
-    ensures { λ r. ⌜ (at + 6 ≤ length (now (page .entry)) → number < 65536 → Puts (now (page .entry)) at (decimalIn 5 number ++ blank) r (now (page .exit))) ⌝ }
+// The last digit of the number that stands in front of the others; of 0 none: no zeros stand in front.
+fn put_leading(page: &mut [u8], at: usize, front: usize) -> usize
+    requires { ⌜ at < length (now page) ⌝ }
+    ensures { λ r. ⌜ Puts (now (page .entry)) at (leadingDigit front) r (now (page .exit)) ⌝ }
 {
-    let end = put_decimal(page, at, number);
-    put(page, end, b" ")
+    if front == 0 {
+        return at;
+    }
+    page[at] = 48 + (front % 10) as u8;
+    at + 1
+}
+
+// A number of at most five places, and a blank.
+fn put_number(page: &mut [u8], at: usize, number: usize) -> usize
+    requires { ⌜ at + 6 ≤ length (now page) ⌝ }
+    ensures { λ r. ⌜ Puts (now (page .entry)) at (decimalIn 5 number ++ blank) r (now (page .exit)) ⌝ }
+{
+    let thousands = put_leading(page, at, number / 10000);
+    let hundreds = put_leading(page, thousands, number / 1000);
+    let tens = put_leading(page, hundreds, number / 100);
+    let last = put_leading(page, tens, number / 10);
+    page[last] = 48 + (number % 10) as u8;
+    put(page, last + 1, b" ")
 }
 
 // A mask and a blank, where there is room for three bytes.
@@ -40,7 +57,7 @@ fn put_mask(page: &mut [u8], at: usize, mask: u8) -> usize
 }
 
 fn put_numbers(page: &mut [u8], at: usize, reading: CountReading) -> usize
-    requires { ⌜ (at + 18 ≤ length (now page)) × (reading .count < 65536) ⌝ }
+    requires { ⌜ at + 18 ≤ length (now page) ⌝ }
     ensures { λ r. ⌜ Puts (now (page .entry)) at (numbersOf reading) r (now (page .exit)) ⌝ }
 {
     let mask = put_number(page, at, reading.position as usize);
@@ -50,7 +67,7 @@ fn put_numbers(page: &mut [u8], at: usize, reading: CountReading) -> usize
 }
 
 pub fn put_line(page: &mut [u8], at: usize, reading: CountReading) -> usize
-    requires { ⌜ (at + 23 ≤ length (now page)) × (reading .count < 65536) ⌝ }
+    requires { ⌜ at + 23 ≤ length (now page) ⌝ }
     ensures { λ r. ⌜ Puts (now (page .entry)) at (lineOf reading) r (now (page .exit)) ⌝ }
 {
     let word = put_numbers(page, at, reading);

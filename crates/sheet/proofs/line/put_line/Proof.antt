@@ -13,7 +13,7 @@ put-basis-requires : tie.Need-put-basis-requires
 put-basis-requires c κs =
     let at1 = c .before .before .before .before in
     let entry = at1 .before .before .before in
-    let room = room-behind 18 5 (length-numbers _) (entry .pre .0) (at1 .put-numbers .ensures) in
+    let room = room-behind 18 5 (length-numbers _) (entry .pre) (at1 .put-numbers .ensures) in
     omega (arith, room)
 
 returns : tie.Need-returns
@@ -25,7 +25,7 @@ returns c =
     let entry = at1 .before .before .before in
     let numbers = at1 .put-numbers .ensures in
     let word = at2 .put-basis .ensures in
-    let behind = room-behind 4 1 (le-of-eq (length-word _)) (room-behind 18 5 (length-numbers _) (entry .pre .0) numbers) word in
+    let behind = room-behind 4 1 (le-of-eq (length-word _)) (room-behind 18 5 (length-numbers _) (entry .pre) numbers) word in
     numbers ▸ (rw (at2 .before .basis-of .ensures) at word) ▸ put-fits behind (at3 .put .ensures)
 
 pub put-line-spec : {M : Type 1} → statement M

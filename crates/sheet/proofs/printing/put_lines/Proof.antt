@@ -26,7 +26,7 @@ put-line-requires c κs =
     let at-loop = c .before .before .before in
     let entry = at-loop .before .before in
     let p = at-loop .loop .inv .1 in
-    (omega (arith, p .ends, keeps-length p, length-lines (entry .args .input .now) (at-loop .loop .number)), c .reading-of .ensures .1)
+    omega (arith, p .ends, keeps-length p, length-lines (entry .args .input .now) (at-loop .loop .number))
 
 loop-again : tie.Need-loop-again Inv-loop μ-loop
 loop-again c =
