@@ -1,22 +1,28 @@
--- What a clear does, place by place, and that the rules of a record outlive a clear and a setting.
+-- What a clear does, place by place and by one place, and that the rules of a record outlive a clear and a setting.
 use mathlib.Core.Path.{_≡_, refl, sym, ap, _∙_}
 use mathlib.Core.Bool.{Bool, true, false, false≢true}
-use mathlib.Core.Logic.{_⊎_, inl, inr, ⊎-elim}
+use mathlib.Core.Logic.{_≢_, _⊎_, inl, inr, ⊎-elim}
 use mathlib.Core.List.{List, [], _∷_}
 use Prim.Native.Nat.{ℕ, zero, suc, _<_, _≤_}
 use native.Mathlib.Nat.{eq-or-lt-of-le}
 use native.Mathlib.Omega.{arith}
-use borrow.Author.Tests.{eq-eqb}
+use borrow.Author.Tests.{eq-eqb, ne-eqb}
 use lib.Bits.{bitAnd, and-self}
 use lib.ListN.{getD, set, length, length-set}
 use lib.Seq.{getD-set-same, getD-set-other}
 use Rattle.identifiers.specs.Choice.{pick}
+use Rattle.identifiers.proofs.LawsChoice.{right-holds, right-decides}
 use Rattle.identifiers.proofs.LawsBelow.{all-at, all-each}
-use Rattle.server.specs.Trailer.{codesBelow, statusWithin, statusesWithin, lengthsWithin, soundRecord, withStatuses}
-use Rattle.server.specs.Faults.{inGroup, storedBelow, clearedOf}
+use Rattle.server.specs.Places.{placeAmong, heldAmong}
+use Rattle.server.specs.Trailer.{ascending, codesBelow, statusWithin, statusesWithin, lengthsWithin, soundRecord, withStatuses}
+use Rattle.server.specs.Faults.{inGroup, storedBelow, clearedOf, clearedAt, reachOf}
 use Rattle.server.specs.declared.trailer.TrailerRecord.{TrailerRecord}
+use Rattle.server.specs.declared.faults.Cleared.{Cleared}
+use Rattle.server.specs.declared.faults.Cleared.the-variants.{First}
 use Rattle.server.proofs.LawsMask.{and-assoc}
-use Rattle.server.proofs.LawsTrailer.{sound-has, sound-from}
+use Rattle.server.proofs.LawsPlaces.{held-at, not-held}
+use Rattle.server.proofs.LawsFaults.{stored-none, stored-nowhere, stored-once}
+use Rattle.server.proofs.LawsTrailer.{ascend-apart, sound-has, sound-from}
 
 -- ---- a mask that is applied twice
 pub mask-twice : (a m : ℕ) → bitAnd (bitAnd a m) m ≡ bitAnd a m
@@ -78,6 +84,33 @@ module _ (t : TrailerRecord) (group : ℕ) where
   pub length-cleared : length (clearedOf t group) ≡ length (t .statuses)
   unfolding clearedOf
   length-cleared = length-stored _ _ _ (t .count)
+
+-- ---- the first none: nothing is cleared
+module _ {cleared : Cleared} (none : cleared ≡ First 0) where
+  pub none-reach : reachOf cleared ≤ 63
+  unfolding reachOf
+  none-reach = rw none (omega arith)
+
+  pub none-cleared : (status : ℕ) (statuses : List ℕ) → clearedAt cleared status statuses ≡ statuses
+  unfolding clearedAt
+  none-cleared status statuses = rw none (stored-none _ _ _)
+
+-- ---- a group that is one code: of codes that ascend one place has it, or none
+module _ (codes : List ℕ) (count group status : ℕ) (statuses : List ℕ) (one : group ≢ 0xFFFFFF) where
+  other : (code : ℕ) → code ≢ group → inGroup group code ≡ false
+  unfolding inGroup
+  other code n = sym (right-decides (ne-eqb _ _ one) (sym (ne-eqb _ _ n)))
+
+  pub group-at : ascending codes count ≡ true → heldAmong codes count group ≡ true → set statuses (placeAmong codes count group) status ≡ storedBelow (λ i. inGroup group (getD codes i 0)) status statuses count
+  unfolding inGroup
+  group-at a e =
+      let at = held-at codes count group e in
+      stored-once _ _ _ count _ (at .0) (sym (right-holds _ (eq-eqb _ _ (at .1))))
+      (λ i l. other _ (λ q. absurd (omega (arith, at .1, ascend-apart codes count i (placeAmong codes count group) a l (at .0)))))
+      (λ i l m. other _ (λ q. absurd (omega (arith, at .1, ascend-apart codes count (placeAmong codes count group) i a l m))))
+
+  pub group-nowhere : heldAmong codes count group ≡ false → statuses ≡ storedBelow (λ i. inGroup group (getD codes i 0)) status statuses count
+  group-nowhere e = stored-nowhere _ _ _ count (λ i l. other _ (not-held codes count group e i l))
 
 -- ---- the rules outlive a clear and a setting
 -- an element after a store is what it was, or what was stored

@@ -1,9 +1,10 @@
 -- Laws of the fault codes: what is listed and how long it is, and the loop that stores.
-use mathlib.Core.Path.{_≡_, refl, ap}
+use mathlib.Core.Path.{_≡_, refl, sym, ap, _∙_}
 use mathlib.Core.Bool.{Bool, true, false, not}
 use mathlib.Core.List.{List, []}
-use mathlib.Core.Logic.{_≢_, _↔_}
-use Prim.Native.Nat.{ℕ, zero, suc, _+_, _*_, _≤_}
+use mathlib.Core.Logic.{_≢_, _↔_, ⊎-elim}
+use Prim.Native.Nat.{ℕ, zero, suc, _+_, _*_, _<_, _≤_}
+use native.Mathlib.Nat.{eq-or-lt-of-le}
 use native.Mathlib.Numerals.{add-one}
 use native.Mathlib.Omega.{arith}
 use borrow.Author.Tests.{eqb-false, ne-eqb, not-true}
@@ -61,6 +62,15 @@ module _ (p : ℕ → Bool) (status : ℕ) (statuses : List ℕ) where
   unfolding storedBelow pick
   stored-hit n e = rw (add-one n, e)
 
-  pub stored-miss : (n : ℕ) → p n ≡ false → storedBelow p status statuses n ≡ storedBelow p status statuses (n + 1)
+  -- nothing is stored where no place has p, and one status where one place has it
+  pub stored-nowhere : (n : ℕ) → ((i : ℕ) → i < n → p i ≡ false) → statuses ≡ storedBelow p status statuses n
   unfolding storedBelow pick
-  stored-miss n e = rw (add-one n, e)
+  stored-nowhere zero h = refl
+  stored-nowhere (suc n) h = rw (h n (omega arith)) (stored-nowhere n (λ i l. h i (omega arith)))
+
+  pub stored-once : (n place : ℕ) → place < n → p place ≡ true → ((i : ℕ) → i < place → p i ≡ false) → ((i : ℕ) → place < i → i < n → p i ≡ false) → set statuses place status ≡ storedBelow p status statuses n
+  unfolding storedBelow pick
+  stored-once zero place l e before behind = absurd (omega arith)
+  stored-once (suc n) place l e before behind =
+      ⊎-elim (λ (q : place ≡ n). rw (ap p (sym q) ∙ e, q) (ap (λ (xs : List ℕ). set xs n status) (stored-nowhere n (λ i m. before i (omega arith)))))
+      (λ (q : place < n). rw (behind n q (omega arith)) (stored-once n place q e before (λ i m o. behind i m (omega arith)))) (eq-or-lt-of-le (omega arith))

@@ -1,14 +1,14 @@
--- The mask rule, both ways, in the rule's own bits, and a mask after a mask.
+-- The mask rule, both ways, in the rule's own bits; a mask after a mask, and over the bits of two numbers together.
 use mathlib.Core.Path.{_≡_, refl, sym, ap, ap₂, _∙_}
 use mathlib.Core.Bool.{Bool, true, false, not}
 use mathlib.Core.Logic.{_≢_, _↔_, _⊎_, inl, inr}
-use Prim.Native.Nat.{ℕ, _+_, _*_, _/_, _%_, min}
-use native.Mathlib.Nat.{min-le-left}
+use Prim.Native.Nat.{ℕ, _+_, _*_, _/_, _%_, min, max}
+use native.Mathlib.Nat.{div-add-mod', min-le-left}
 use native.Mathlib.Omega.{arith}
 use borrow.Author.Tests.{eqb-true, eqb-false, eq-eqb, ne-eqb, not-true}
 use lib.Dec.{eqb}
 use lib.Arith.{bin-ind}
-use lib.Bits.{bitAnd, and-step, and-shr}
+use lib.Bits.{bitAnd, bitOr, and-step, or-step, and-shr, or-shr}
 use Rattle.identifiers.specs.Choice.{either}
 use Rattle.identifiers.proofs.LawsChoice.{both-true, so, left-holds, right-holds}
 use Rattle.server.specs.Mask.{soundMask}
@@ -46,3 +46,22 @@ and-assoc a = bin-ind (λ (n : ℕ). (b c : ℕ) → bitAnd (bitAnd n b) c ≡ b
     ∙ ap₂ (λ (x y : ℕ). x * 2 + y) (ap (λ (x : ℕ). bitAnd x (c / 2)) (and-shr n b 1) ∙ ih (b / 2) (c / 2) ∙ ap (bitAnd (n / 2)) (sym (and-shr b c 1)))
     (omega (arith, low-bit n b, low-bit b c))
     ∙ sym (and-step n (bitAnd b c))) a
+
+-- ---- a mask over two numbers together
+low-bit-of-or : (a b : ℕ) → bitOr a b % 2 ≡ max (a % 2) (b % 2)
+low-bit-of-or a b = omega (arith, or-step a b)
+
+pub and-of-or : (a b mask : ℕ) → bitAnd (bitOr a b) mask ≡ bitOr (bitAnd a mask) (bitAnd b mask)
+and-of-or a = bin-ind (λ (n : ℕ). (b mask : ℕ) → bitAnd (bitOr n b) mask ≡ bitOr (bitAnd n mask) (bitAnd b mask)) (λ b mask. refl)
+    (λ n ih b mask. and-step (bitOr n b) mask
+    ∙ ap₂ (λ (x y : ℕ). x * 2 + y) (ap (λ (x : ℕ). bitAnd x (mask / 2)) (or-shr n b 1) ∙ ih (b / 2) (mask / 2) ∙ sym (ap₂ bitOr (and-shr n mask 1) (and-shr b mask 1)))
+    (omega (arith, low-bit-of-or n b, low-bit n mask, low-bit b mask))
+    ∙ sym (or-step (bitAnd n mask) (bitAnd b mask))) a
+
+absorbed : (a b : ℕ) → bitAnd a (bitOr a b) ≡ a
+absorbed a = bin-ind (λ (n : ℕ). (b : ℕ) → bitAnd n (bitOr n b) ≡ n) (λ b. refl)
+    (λ n ih b. and-step n (bitOr n b) ∙ ap₂ (λ (x y : ℕ). x * 2 + y) (ap (bitAnd (n / 2)) (or-shr n b 1) ∙ ih (b / 2)) (omega (arith, low-bit-of-or n b)) ∙ div-add-mod' n 2) a
+
+-- what has no bit outside a mask together with another has none by itself
+pub part-within : (a b mask : ℕ) → bitAnd (bitOr a b) mask ≡ bitOr a b → bitAnd a mask ≡ a
+part-within a b mask e = ap (λ (x : ℕ). bitAnd x mask) (sym (absorbed a b)) ∙ and-assoc a (bitOr a b) mask ∙ ap (bitAnd a) e ∙ absorbed a b

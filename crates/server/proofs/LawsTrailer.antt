@@ -7,16 +7,18 @@ use Prim.Native.Nat.{ℕ, zero, suc, _+_, _-_, _≤_, _<_}
 use native.Mathlib.Nat.{eq-or-lt-of-le}
 use native.Mathlib.Numerals.{add-one}
 use native.Mathlib.Omega.{arith}
-use borrow.Author.Tests.{leb-true, ltb-true, lt-ltb, le-leb}
-use lib.Dec.{ltb}
+use borrow.Author.Tests.{leb-true, ltb-true, eqb-true, eqb-false, eq-eqb, ne-eqb, lt-ltb, le-leb}
+use lib.Dec.{eqb, ltb}
+use lib.Bits.{bitAnd, bitOr, or-comm}
 use lib.ListN.{getD}
 use Rattle.identifiers.specs.Choice.{both}
 use Rattle.identifiers.specs.Below.{allBelow}
 use Rattle.identifiers.proofs.LawsChoice.{stop, so, both-true, both-false, both-assoc, and-is}
 use Rattle.identifiers.proofs.LawsBelow.{all-suc, all-at, all-each, all-fails}
 use Rattle.server.specs.Mask.{soundMask}
-use Rattle.server.specs.Trailer.{ascending, codesBelow, statusesWithin, lengthWithin, lengthsWithin, soundRecord}
+use Rattle.server.specs.Trailer.{ascending, codesBelow, statusWithin, statusesWithin, lengthWithin, lengthsWithin, soundRecord}
 use Rattle.server.specs.declared.trailer.TrailerRecord.{TrailerRecord}
+use Rattle.server.proofs.LawsMask.{and-of-or, part-within}
 
 pub record Sound (t : TrailerRecord) : Type 0 where
   pub count : t .count ≤ 63
@@ -64,6 +66,26 @@ codes-by-last codes count l = by (ascending codes count) (ltb (getD codes (count
     by false b p q = sym (both-false _)
     by true false p q = stop true (all-fails _ (count - 1) count (omega arith) q)
     by true true p q = so (all-each _ count (λ i h. lt-ltb (getD codes i 0) 0xFFFFFF (omega (arith, last-greatest codes (count - 1) p i (omega arith), ltb-true (getD codes (count - 1) 0) 0xFFFFFF q)))) refl
+
+-- none of those that ascend stands at two places
+pub ascend-apart : (codes : List ℕ) (n i j : ℕ) → ascending codes n ≡ true → i < j → j < n → getD codes i 0 < getD codes j 0
+unfolding ascending
+ascend-apart codes n i j e l m =
+    omega (arith, ltb-true (getD codes i 0) (getD codes (i + 1) 0) (all-at _ i (n - 1) e (omega arith)), last-greatest codes j (all-each _ j (λ k h. all-at _ k (n - 1) e (omega arith))) (i + 1) (omega arith))
+
+-- ---- the statuses: of none no bit is outside the mask, and of two together none where none is of each
+pub none-within : (availability : ℕ) → statusWithin availability 0 ≡ true
+unfolding statusWithin
+none-within availability = refl
+
+pub both-within : (availability a b : ℕ) → statusWithin availability (bitOr a b) ≡ (statusWithin availability a && statusWithin availability b)
+unfolding statusWithin
+both-within availability a b = by (eqb (bitAnd a availability) a) (eqb (bitAnd b availability) b) refl refl
+  where
+    by : (p q : Bool) → eqb (bitAnd a availability) a ≡ p → eqb (bitAnd b availability) b ≡ q → eqb (bitAnd (bitOr a b) availability) (bitOr a b) ≡ (p && q)
+    by false q m n = ne-eqb _ _ (λ e. eqb-false _ _ m (part-within a b availability e))
+    by true false m n = ne-eqb _ _ (λ e. eqb-false _ _ n (part-within b a availability (rw (or-comm b a) e)))
+    by true true m n = eq-eqb _ _ (and-of-or a b availability ∙ rw (eqb-true (bitAnd a availability) a m, eqb-true (bitAnd b availability) b n))
 
 -- the tests of a record in a row, as the code and as the definition joins them
 pub tests-in-a-row : (a b c d e f : Bool) → ((((a && both b c) && d) && e) && f) ≡ both (both (both (both (both a b) c) d) e) f

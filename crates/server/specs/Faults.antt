@@ -1,5 +1,5 @@
 -- Services 14 and 19: the match, the count, the cleared statuses and the report (document 01, "Server").
-use mathlib.Core.Bool.{Bool, not}
+use mathlib.Core.Bool.{Bool, true, not}
 use mathlib.Core.List.{List, [], _∷_}
 use Prim.Native.Nat.{ℕ, zero, suc, _/_, _%_}
 use lib.Dec.{eqb}
@@ -9,6 +9,7 @@ use Rattle.identifiers.specs.Choice.{pick, either}
 use Rattle.identifiers.specs.Below.{countBelow, listBelow}
 use Rattle.server.specs.Places.{heldAmong}
 use Rattle.server.specs.declared.trailer.TrailerRecord.{TrailerRecord}
+use Rattle.server.specs.declared.faults.Cleared.{Cleared}
 
 -- "Match: status AND mask is not 0."
 unfoldable pub matches : ℕ → ℕ → Bool
@@ -53,3 +54,13 @@ storedBelow p status statuses (suc n) = pick (p n) (set (storedBelow p status st
 -- "those statuses become `50` AND the availability mask"
 unfoldable pub clearedOf : TrailerRecord → ℕ → List ℕ
 clearedOf t group = storedBelow (λ i. inGroup group (getD (t .codes) i 0)) (bitAnd 0x50 (t .availability)) (t .statuses) (t .count)
+
+-- the statuses after a clear of those that were found: that at one place, or the first so many
+unfoldable pub clearedAt : Cleared → ℕ → List ℕ → List ℕ
+clearedAt (Cleared.At place) status statuses = set statuses place status
+clearedAt (Cleared.First n) status statuses = storedBelow (λ i. true) status statuses n
+
+-- how many statuses there must be for that
+unfoldable pub reachOf : Cleared → ℕ
+reachOf (Cleared.At place) = suc place
+reachOf (Cleared.First n) = n

@@ -2,7 +2,7 @@
 use crate::data_identifiers::answers_length;
 use crate::faults::ALL_GROUPS;
 use crate::faults::count_listed;
-use crate::faults::place_among;
+use crate::faults::is_held;
 use crate::requests::Request;
 ghost use mathlib.Core.Path.{_≡_};
 ghost use Prim.Native.Nat.{ℕ, _+_, _*_, _≤_};
@@ -20,7 +20,7 @@ fn content_of_14(codes: &[u32; 63], count: usize, group: u32) -> u8
     if group == ALL_GROUPS {
         return 0;
     }
-    if place_among(codes, count, group) < count {
+    if is_held(codes, count, group) {
         return 0;
     }
     0x31

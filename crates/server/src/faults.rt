@@ -1,12 +1,15 @@
 // Services 14 and 19: the fault codes held, counted, listed and cleared.
 ghost use mathlib.Core.Path.{_≡_};
-ghost use Prim.Native.Nat.{_+_, _*_, _≤_};
-ghost use lib.Bits.{bitAnd};
+ghost use mathlib.Core.Bool.{true};
+ghost use mathlib.Core.List.{List};
+ghost use Prim.Native.Nat.{ℕ, _+_, _*_, _≤_};
 ghost use lib.ListN.{length, getD};
 ghost use Rattle.identifiers.specs.Below.{countBelow, listBelow};
 ghost use Rattle.identifiers.specs.Bytes.{Puts};
-ghost use Rattle.server.specs.Places.{placeAmong};
-ghost use Rattle.server.specs.Faults.{listed, codeAndStatus, twoBytes, reported, inGroup, storedBelow};
+ghost use Rattle.server.specs.Places.{placeAmong, heldAmong};
+ghost use Rattle.server.specs.Trailer.{ascending};
+ghost use Rattle.server.specs.Faults.{listed, codeAndStatus, twoBytes, reported, inGroup, storedBelow, clearedAt, reachOf};
+ghost use Rattle.server.specs.declared.faults.Cleared.the-variants.{First};
 
 // The group that takes in every code.
 pub const ALL_GROUPS: u32 = 0xFFFFFF;
@@ -24,6 +27,20 @@ pub fn place_among(codes: &[u32; 63], count: usize, code: u32) -> usize
         i += 1;
     }
     count
+}
+
+// Is a code held: every place is looked at, so that no branch hangs on where it stands.
+pub fn is_held(codes: &[u32; 63], count: usize, code: u32) -> bool
+    requires { ⌜ count ≤ 63 ⌝ }
+    ensures { λ r. ⌜ r ≡ heldAmong (now (codes .entry)) count code ⌝ }
+{
+    let mut held = false;
+    let mut i = 0;
+    while i < count {
+        held = held | (codes[i] == code);
+        i += 1;
+    }
+    held
 }
 
 fn is_listed(all: bool, mask: u8, status: u8) -> bool
@@ -97,31 +114,34 @@ pub fn put_report<'a>(
     at
 }
 
-fn in_group(group: u32, code: u32) -> bool
-    ensures { λ r. ⌜ r ≡ inGroup group code ⌝ }
-{
-    (group == ALL_GROUPS) | (code == group)
+// Which statuses are cleared: that at one place, or the first so many.
+pub enum Cleared {
+    At(usize),
+    First(usize),
 }
 
-// The statuses, with those of the group cleared.
-pub fn cleared<'a>(
-    codes: &'a [u32; 63],
-    statuses: &'a [u8; 63],
-    count: usize,
-    availability: u8,
-    group: u32,
-) -> [u8; 63]
-    requires { ⌜ count ≤ 63 ⌝ }
-    ensures { λ r. ⌜ r ≡ storedBelow (λ i. inGroup group (getD (now (codes .entry)) i 0)) (bitAnd 0x50 availability) (now (statuses .entry)) count ⌝ }
+// What a group clears. Of codes that ascend none stands at two places.
+pub fn cleared_by_group(codes: &[u32; 63], count: usize, group: u32) -> Cleared
+    requires { ⌜ (count ≤ 63) × (ascending (now codes) count ≡ true) ⌝ }
+    ensures { λ r. ⌜ (reachOf r ≤ 63) × ((status : ℕ) (statuses : List ℕ) → clearedAt r status statuses ≡ storedBelow (λ i. inGroup group (getD (now (codes .entry)) i 0)) status statuses count) ⌝ }
 {
-    let status = 0x50 & availability;
-    let mut after = *statuses;
+    if group == ALL_GROUPS {
+        return Cleared::First(count);
+    }
+    let place = place_among(codes, count, group);
+    if place < count {
+        return Cleared::At(place);
+    }
+    Cleared::First(0)
+}
+
+pub fn clear_first(statuses: &mut [u8; 63], n: usize, status: u8)
+    requires { ⌜ n ≤ 63 ⌝ }
+    ensures { λ _. ⌜ now (statuses .exit) ≡ clearedAt (First n) status (now (statuses .entry)) ⌝ }
+{
     let mut i = 0;
-    while i < count {
-        if in_group(group, codes[i]) {
-            after[i] = status;
-        }
+    while i < n {
+        statuses[i] = status;
         i += 1;
     }
-    after
 }

@@ -2,7 +2,9 @@
 use crate::answers::put_negative;
 use crate::answers::put_positive;
 use crate::checks::negative;
-use crate::faults::cleared;
+use crate::faults::Cleared;
+use crate::faults::clear_first;
+use crate::faults::cleared_by_group;
 use crate::requests::Request;
 use crate::requests::read_request;
 use crate::silence::silent_on;
@@ -13,8 +15,11 @@ ghost use mathlib.Core.Path.{_≡_};
 ghost use mathlib.Core.Bool.{true, false};
 ghost use mathlib.Core.List.{List};
 ghost use Prim.Native.Nat.{ℕ, _≤_};
+ghost use lib.Bits.{bitAnd};
 ghost use lib.ListN.{length};
-ghost use Rattle.server.specs.Trailer.{soundRecord, withStatuses, recordOf};
+ghost use Rattle.server.specs.Trailer.{ascending, soundRecord, withStatuses, recordOf};
+ghost use Rattle.server.specs.Faults.{clearedAt, reachOf};
+ghost use Rattle.server.specs.declared.faults.Cleared.the-variants.{First};
 ghost use Rattle.server.specs.Requests.{requestOf};
 ghost use Rattle.server.specs.Server.{changedBy, wrongLengths, effect, answered, servedOf};
 ghost use Rattle.server.specs.Told.{replyTold};
@@ -69,30 +74,30 @@ fn wrong_lengths(request: usize, response: usize) -> bool
     (request == 0) | (255 < request) | (response != 255)
 }
 
-// The statuses after a positive answer, whatever the data identifiers: nothing else of a record changes.
-fn statuses_after<'a>(
-    codes: &'a [u32; 63],
-    statuses: &'a [u8; 63],
-    count: usize,
-    availability: u8,
-    asked: Request,
-) -> [u8; 63]
-    requires { ⌜ count ≤ 63 ⌝ }
-    ensures { λ r. ⌜ ((identifiers lengths bytes : List ℕ) (held : ℕ)
-        → recordOf (now (codes .entry)) r count availability identifiers lengths bytes held ≡ changedBy (recordOf (now (codes .entry)) (now (statuses .entry)) count availability identifiers lengths bytes held) asked) ⌝ }
-{
-    if let Request::ClearGroup { group } = asked {
-        return cleared(codes, statuses, count, availability, group);
-    }
-    *statuses
+// What a request comes to: the reply, and which statuses it clears.
+struct Settled {
+    reply: Reply,
+    cleared: Cleared,
 }
 
-// The statuses as they were, with an answer.
-fn unchanged(statuses: &[u8; 63], reply: Reply) -> Served
-    ensures { λ r. ⌜ (r .statuses ≡ now (statuses .entry)) × (r .reply ≡ reply) ⌝ }
+// Which statuses a positive answer clears, whatever they are and whatever the data identifiers: nothing else of a record changes.
+fn cleared_by(codes: &[u32; 63], count: usize, asked: Request) -> Cleared
+    requires { ⌜ (count ≤ 63) × (ascending (now codes) count ≡ true) ⌝ }
+    ensures { λ r. ⌜ (reachOf r ≤ 63) × ((statuses : List ℕ) (availability : ℕ) (identifiers lengths bytes : List ℕ) (held : ℕ)
+        → recordOf (now (codes .entry)) (clearedAt r (bitAnd 0x50 availability) statuses) count availability identifiers lengths bytes held ≡ changedBy (recordOf (now (codes .entry)) statuses count availability identifiers lengths bytes held) asked) ⌝ }
 {
-    let statuses = *statuses;
-    Served { statuses, reply }
+    if let Request::ClearGroup { group } = asked {
+        return cleared_by_group(codes, count, group);
+    }
+    Cleared::First(0)
+}
+
+// A reply that clears nothing.
+fn unchanged(reply: Reply) -> Settled
+    ensures { λ r. ⌜ (r .reply ≡ reply) × (r .cleared ≡ First 0) ⌝ }
+{
+    let cleared = Cleared::First(0);
+    Settled { reply, cleared }
 }
 
 // Reads a request and answers it, to a record that keeps its rules.
@@ -109,10 +114,10 @@ fn answered<'a>(
     request: &[u8],
     functional: bool,
     response: &mut [u8],
-) -> Served
+) -> Settled
     requires { ⌜ (soundRecord (recordOf (now codes) (now statuses) count availability (now identifiers) (now lengths) (now bytes) held) ≡ true) × (wrongLengths (length (now request)) (length (now response)) ≡ false) ⌝ }
-    ensures { λ r. ⌜ effect (recordOf (now (codes .entry)) (r .statuses) count availability (now (identifiers .entry)) (now (lengths .entry)) (now (bytes .entry)) held) (r .reply) (now (response .exit))
-        ≡ answered (recordOf (now (codes .entry)) (now (statuses .entry)) count availability (now (identifiers .entry)) (now (lengths .entry)) (now (bytes .entry)) held) (requestOf (now (request .entry))) (now (request .entry)) functional (now (response .entry)) ⌝ }
+    ensures { λ r. ⌜ (reachOf (r .cleared) ≤ 63) × (effect (recordOf (now (codes .entry)) (clearedAt (r .cleared) (bitAnd 0x50 availability) (now (statuses .entry))) count availability (now (identifiers .entry)) (now (lengths .entry)) (now (bytes .entry)) held) (r .reply) (now (response .exit))
+        ≡ answered (recordOf (now (codes .entry)) (now (statuses .entry)) count availability (now (identifiers .entry)) (now (lengths .entry)) (now (bytes .entry)) held) (requestOf (now (request .entry))) (now (request .entry)) functional (now (response .entry))) ⌝ }
 {
     let asked = read_request(request);
     let code = negative(
@@ -127,11 +132,11 @@ fn answered<'a>(
         request,
     );
     if silent_on(asked, functional, code) {
-        return unchanged(statuses, Reply::Silent);
+        return unchanged(Reply::Silent);
     }
     if code != 0 {
         let n = put_negative(response, request[0], code);
-        return unchanged(statuses, Reply::Sent(n));
+        return unchanged(Reply::Sent(n));
     }
     let n = put_positive(
         codes,
@@ -146,9 +151,9 @@ fn answered<'a>(
         request,
         response,
     );
-    let statuses = statuses_after(codes, statuses, count, availability, asked);
     let reply = Reply::Sent(n);
-    Served { statuses, reply }
+    let cleared = cleared_by(codes, count, asked);
+    Settled { reply, cleared }
 }
 
 // Answers one request to a record in parts: refusal 1 where it breaks its rules, 17 for the lengths; else as the request is read.
@@ -164,9 +169,9 @@ fn serve_parts<'a>(
     request: &[u8],
     functional: bool,
     response: &mut [u8],
-) -> Served
-    ensures { λ r. ⌜ effect (recordOf (now (codes .entry)) (r .statuses) count availability (now (identifiers .entry)) (now (lengths .entry)) (now (bytes .entry)) held) (r .reply) (now (response .exit))
-        ≡ servedOf (recordOf (now (codes .entry)) (now (statuses .entry)) count availability (now (identifiers .entry)) (now (lengths .entry)) (now (bytes .entry)) held) (now (request .entry)) functional (now (response .entry)) ⌝ }
+) -> Settled
+    ensures { λ r. ⌜ (reachOf (r .cleared) ≤ 63) × (effect (recordOf (now (codes .entry)) (clearedAt (r .cleared) (bitAnd 0x50 availability) (now (statuses .entry))) count availability (now (identifiers .entry)) (now (lengths .entry)) (now (bytes .entry)) held) (r .reply) (now (response .exit))
+        ≡ servedOf (recordOf (now (codes .entry)) (now (statuses .entry)) count availability (now (identifiers .entry)) (now (lengths .entry)) (now (bytes .entry)) held) (now (request .entry)) functional (now (response .entry))) ⌝ }
 {
     if !sound_record(
         codes,
@@ -177,10 +182,10 @@ fn serve_parts<'a>(
         lengths,
         held,
     ) {
-        return unchanged(statuses, Reply::Refused(Refusal::RulesBroken));
+        return unchanged(Reply::Refused(Refusal::RulesBroken));
     }
     if wrong_lengths(request.len(), response.len()) {
-        return unchanged(statuses, Reply::Refused(Refusal::WrongLength));
+        return unchanged(Reply::Refused(Refusal::WrongLength));
     }
     answered(
         codes,
@@ -198,12 +203,17 @@ fn serve_parts<'a>(
 }
 
 // Answers one request.
-pub fn serve(record: TrailerRecord, request: &[u8], functional: bool, response: &mut [u8]) -> Served
+pub fn serve(
+    mut record: TrailerRecord,
+    request: &[u8],
+    functional: bool,
+    response: &mut [u8],
+) -> Served
     ensures { λ r. ⌜ (withStatuses «record» (r .statuses) ≡ servedOf «record» (now (request .entry)) functional (now (response .entry)) .after)
         × ((r .reply ≡ servedOf «record» (now (request .entry)) functional (now (response .entry)) .reply)
         × (now (response .exit) ≡ servedOf «record» (now (request .entry)) functional (now (response .entry)) .response)) ⌝ }
 {
-    serve_parts(
+    let settled = serve_parts(
         &record.codes,
         &record.statuses,
         record.count,
@@ -215,5 +225,18 @@ pub fn serve(record: TrailerRecord, request: &[u8], functional: bool, response: 
         request,
         functional,
         response,
-    )
+    );
+    let status = 0x50 & record.availability;
+    let cleared = settled.cleared;
+    match cleared {
+        Cleared::At(place) => {
+            record.statuses[place] = status;
+        }
+        Cleared::First(n) => {
+            clear_first(&mut record.statuses, n, status);
+        }
+    }
+    let statuses = record.statuses;
+    let reply = settled.reply;
+    Served { statuses, reply }
 }

@@ -55,17 +55,18 @@ pub fn status_within(availability: u8, status: u8) -> bool
     status & availability == status
 }
 
+// The bits of all statuses together are within where those of each are.
 fn statuses_within(statuses: &[u8; 63], availability: u8, count: usize) -> bool
     requires { ⌜ count ≤ 63 ⌝ }
     ensures { λ r. ⌜ r ≡ allBelow (λ i. statusWithin availability (getD (now (statuses .entry)) i 0)) count ⌝ }
 {
-    let mut sound = true;
+    let mut bits = 0;
     let mut i = 0;
     while i < count {
-        sound = sound & status_within(availability, statuses[i]);
+        bits = bits | statuses[i];
         i += 1;
     }
-    sound
+    status_within(availability, bits)
 }
 
 fn identifiers_ascend(identifiers: &[u16; 16], held: usize) -> bool

@@ -15,6 +15,7 @@ use Rattle.server.specs.declared.trailer.TrailerRecord.{TrailerRecord}
 use Rattle.server.specs.declared.requests.Request.{Request}
 use Rattle.server.specs.declared.serving.Reply.the-variants.{Sent}
 use Rattle.server.proofs.LawsTrailer.{Sound, sound-has}
+use Rattle.server.proofs.LawsCleared.{none-reach, none-cleared}
 use Rattle.server.proofs.LawsServer.{right-lengths, same-effect, answered-silent, answered-negative, answered-positive}
 use Rattle.server.proofs.serving.answered.Statement.{statement}
 use Rattle.server.proofs.serving.answered.Tie as tie
@@ -73,9 +74,11 @@ negative-requires c κs = let start = entry c in (has start .count, (has start .
 returns : tie.Need-returns
 returns c =
     let l = c .unchanged .ensures in
-    let k = c .before .before .before in
-    same-effect (ap (with (entry (k .before))) (l .0)) (l .1) refl
-    ∙ as-read (k .before) (answered-silent _ _ _ _ _ (rw (c .before .before .silent-on .ensures, code k) at (c .before .if1 .taken)))
+    let k = c .before .before .before in (
+      none-reach (l .1),
+      same-effect (ap (with (entry (k .before))) (none-cleared (l .1) _ _)) (l .0) refl
+          ∙ as-read (k .before) (answered-silent _ _ _ _ _ (rw (c .before .before .silent-on .ensures, code k) at (c .before .if1 .taken))),
+    )
 
 first-byte : tie.Need-shared-slice-read-put-negative
 first-byte c = omega (arith, lengths (entry (read (c .before .before .before))) .0)
@@ -92,9 +95,11 @@ returns-2 c =
     let l = c .unchanged2 .ensures in
     let put = c .before .before .before .put-negative .ensures in
     let two = c .before .before .before .before .before .before in
-    let one = two .before in
-    same-effect (ap (with (entry (read one))) (l .0)) (l .1 ∙ ap Sent (put .ends)) (rw (code (known one)) at (put .holds))
-    ∙ as-read (read one) (answered-negative _ _ _ _ _ (spoken one) (λ z. two .if2 .taken (code (known one) ∙ z)))
+    let one = two .before in (
+      none-reach (l .1),
+      same-effect (ap (with (entry (read one))) (none-cleared (l .1) _ _)) (l .0 ∙ ap Sent (put .ends)) (rw (code (known one)) at (put .holds))
+          ∙ as-read (read one) (answered-negative _ _ _ _ _ (spoken one) (λ z. two .if2 .taken (code (known one) ∙ z))),
+    )
 
 put-positive-requires : tie.Need-put-positive-requires
 put-positive-requires c κs =
@@ -102,8 +107,8 @@ put-positive-requires c κs =
     let start = entry (read (two .before)) in
     (has start .count, (has start .held, (has start .lengths, (lengths start .0, (lengths start .1 .1, sym (code (known (two .before))) ∙ two .if2 .left)))))
 
-statuses-after-requires : tie.Need-statuses-after-requires
-statuses-after-requires c κs = has (entry (read (c .before .before .before .before .before))) .count
+cleared-by-requires : tie.Need-cleared-by-requires
+cleared-by-requires c κs = let start = entry (read (c .before .before .before .before .before)) in (has start .count, has start .ascend)
 
 same-length-2 : tie.Need-same-length-2
 same-length-2 c = keeps-length (c .before .before .before .put-positive .ensures)
@@ -113,8 +118,11 @@ returns-3 c =
     let put = c .before .before .before .put-positive .ensures in
     let two = c .before .before .before .before .before in
     let one = two .before in
-    same-effect (c .statuses-after .ensures _ _ _ _) (ap Sent (put .ends ∙ zero-add _)) (put .holds)
-    ∙ as-read (read one) (answered-positive _ _ _ _ _ (spoken one) (sym (code (known one)) ∙ two .if2 .left))
+    let done = c .cleared-by .ensures in (
+      done .0,
+      same-effect (done .1 _ _ _ _ _ _) (ap Sent (put .ends ∙ zero-add _)) (put .holds)
+          ∙ as-read (read one) (answered-positive _ _ _ _ _ (spoken one) (sym (code (known one)) ∙ two .if2 .left)),
+    )
 
 pub answered-spec : {M : Type 1} → statement M
 answered-spec = tie.close (tie.spec
@@ -129,6 +137,6 @@ answered-spec = tie.close (tie.spec
     same-length
     returns-2
     put-positive-requires
-    statuses-after-requires
+    cleared-by-requires
     same-length-2
     returns-3)

@@ -9,6 +9,7 @@ use lib.ListN.{length}
 use Rattle.server.specs.Trailer.{soundRecord, recordOf}
 use Rattle.server.specs.Server.{wrongLengths}
 use Rattle.server.specs.declared.trailer.TrailerRecord.{TrailerRecord}
+use Rattle.server.proofs.LawsCleared.{none-reach, none-cleared}
 use Rattle.server.proofs.LawsServer.{same-effect, served-1, served-17, served-read}
 use Rattle.server.proofs.serving.serve_parts.Statement.{statement}
 use Rattle.server.proofs.serving.serve_parts.Tie as tie
@@ -33,20 +34,23 @@ returns : tie.Need-returns
 returns c =
     let l = c .unchanged .ensures in
     let start = c .before .before .before .before .before in
-    same-effect (ap (with start) (l .0)) (l .1) refl ∙ sym (served-1 _ _ _ _ (sym (c .before .before .sound-record .ensures _) ∙ not-true _ (c .before .if1 .taken)))
+    (none-reach (l .1), same-effect (ap (with start) (none-cleared (l .1) _ _)) (l .0) refl ∙ sym (served-1 _ _ _ _ (sym (c .before .before .sound-record .ensures _) ∙ not-true _ (c .before .if1 .taken))))
 
 returns-2 : tie.Need-returns-2
 returns-2 c =
     let l = c .unchanged2 .ensures in
     let k = c .before .before .before in
     let start = k .before .before .before .before in
-    same-effect (ap (with start) (l .0)) (l .1) refl ∙ sym (served-17 _ _ _ _ (sound k) (sym (c .before .before .wrong-lengths .ensures) ∙ c .before .if2 .taken))
+    (none-reach (l .1), same-effect (ap (with start) (none-cleared (l .1) _ _)) (l .0) refl ∙ sym (served-17 _ _ _ _ (sound k) (sym (c .before .before .wrong-lengths .ensures) ∙ c .before .if2 .taken)))
 
 answered-requires : tie.Need-answered-requires
 answered-requires c κs = let k = c .before in (sound (k .before .before), right k)
 
 returns-3 : tie.Need-returns-3
-returns-3 c = let k = c .before .before .before .before in c .before .before .answered .ensures ∙ sym (served-read _ _ _ _ (sound (k .before .before)) (right k) refl)
+returns-3 c =
+    let done = c .before .before .answered .ensures in
+    let k = c .before .before .before .before in
+    (done .0, done .1 ∙ sym (served-read _ _ _ _ (sound (k .before .before)) (right k) refl))
 
 pub serve-parts-spec : {M : Type 1} → statement M
 serve-parts-spec = tie.close (tie.spec

@@ -1,4 +1,4 @@
--- `statuses_after` meets its contract: cleared where a group is to be cleared, else as they were.
+-- `cleared_by` meets its contract: what the group clears where one is to be cleared, else nothing.
 use mathlib.Core.Path.{_≡_, refl}
 use mathlib.Core.Bool.{not}
 use mathlib.Core.List.{List, [], _∷_}
@@ -12,13 +12,14 @@ use Rattle.server.specs.Faults.{clearedOf}
 use Rattle.server.specs.Server.{changedBy}
 use Rattle.server.specs.declared.trailer.TrailerRecord.{TrailerRecord}
 use Rattle.server.specs.declared.requests.Request.{Request}
+use Rattle.server.proofs.LawsCleared.{none-reach, none-cleared}
 use Rattle.server.proofs.requests.Request.{the-type}
-use Rattle.server.proofs.serving.statuses_after.Statement.{statement}
-use Rattle.server.proofs.serving.statuses_after.Tie as tie
+use Rattle.server.proofs.serving.cleared_by.Statement.{statement}
+use Rattle.server.proofs.serving.cleared_by.Tie as tie
 
 returns : tie.Need-returns
 unfolding changedBy clearedOf
-returns c = λ identifiers lengths bytes held. rw (c .cleared .ensures, c .before .before .asked .given .1)
+returns c = (c .cleared-by-group .ensures .0, λ statuses availability identifiers lengths bytes held. rw (c .cleared-by-group .ensures .1, c .before .before .asked .given .1))
 
 -- a request that clears no group changes nothing
 unchanged : (t : TrailerRecord) (asked : Request) (ks : List ℕ) → T (not (hasKey ks 4)) → OneOf ks (tagOf the-type asked) → t ≡ changedBy t asked
@@ -35,10 +36,10 @@ unchanged t Request.ReadData ks n k = refl
 unchanged t (Request.TesterPresent silent) ks n k = refl
 
 returns-2 : tie.Need-returns-2
-returns-2 c = λ identifiers lengths bytes held. unchanged _ _ (0 ∷ 1 ∷ 2 ∷ 3 ∷ 5 ∷ 6 ∷ 7 ∷ 8 ∷ 9 ∷ []) tt (c .before .match .keys2)
+returns-2 c = (none-reach refl, λ statuses availability identifiers lengths bytes held. rw (none-cleared refl) (unchanged _ _ (0 ∷ 1 ∷ 2 ∷ 3 ∷ 5 ∷ 6 ∷ 7 ∷ 8 ∷ 9 ∷ []) tt (c .match .keys2)))
 
-pub statuses-after-spec : {M : Type 1} → statement M
-statuses-after-spec = tie.close (tie.spec
+pub cleared-by-spec : {M : Type 1} → statement M
+cleared-by-spec = tie.close (tie.spec
     (λ c. search needs)
     (λ c κs. search needs)
     returns
