@@ -4,7 +4,7 @@
  *
  *     bench                            the names of the works, and how many calls a round has
  *     bench archive|model WORK ROUNDS  does it, and prints nothing: for a counter of instructions
- *     bench time WORK ROUNDS           nanoseconds a call, of the archive and of the model: the best of nine turns
+ *     bench time WORK                  nanoseconds a call, of the archive and of the model: the least of a thousand samples, in turn
  *     bench stack WORK                 bytes of stack below the caller's, of the archive and of the model
  */
 #include "castanhiu.h"
@@ -110,14 +110,12 @@ static void mix(void)
 static void receive_archive(unsigned long rounds)
 {
     static uint8_t buffer[CASTANHIU_BUFFER];
-    castanhiu_node node = castanhiu_start(5);
+    castanhiu_node node;
+    castanhiu_start(&node, 5);
     for (unsigned long r = 0; r < rounds; r++) {
         for (unsigned i = 0; i < offered; i++) {
             const line *const l = &lines[i];
-            const castanhiu_receive_answer a =
-                castanhiu_receive(node, buffer, sizeof buffer, l->number, l->data, l->length, l->stamp);
-            node = a.node;
-            sink += a.outcome.length;
+            sink += castanhiu_receive(&node, buffer, sizeof buffer, l->number, l->data, l->length, l->stamp).length;
         }
     }
 }
@@ -334,20 +332,34 @@ enum { WORKS = sizeof works / sizeof works[0] };
 
 /* ---- time and stack ------------------------------------------------------------------------ */
 
-static double best(void (*does)(unsigned long), unsigned long rounds, double before)
+enum { SAMPLES = 1000 };
+
+static double now(void)
 {
-    const clock_t began = clock();
-    does(rounds);
-    const double took = (double)(clock() - began) * (1e9 / (double)CLOCKS_PER_SEC);
-    return before == 0 || took < before ? took : before;
+    struct timespec t;
+    timespec_get(&t, TIME_UTC);
+    return 1e9 * (double)t.tv_sec + (double)t.tv_nsec;
 }
 
-static void print_time(const work *w, unsigned calls, unsigned long rounds)
+static double took(void (*does)(unsigned long), unsigned long rounds)
 {
+    const double began = now();
+    does(rounds);
+    return now() - began;
+}
+
+/* Short samples, of both works in turn, so that what else the machine does falls on both alike: the least of many of each. */
+static void print_time(const work *w, unsigned calls)
+{
+    unsigned long rounds = 1;
+    while (took(w->model, rounds) < 1e5) {
+        rounds *= 2;
+    }
     double archive = 0, model = 0;
-    for (unsigned turn = 0; turn < 9; turn++) {
-        archive = best(w->archive, rounds, archive);
-        model = best(w->model, rounds, model);
+    for (unsigned sample = 0; sample < SAMPLES; sample++) {
+        const double ours = took(w->archive, rounds), theirs = took(w->model, rounds);
+        archive = sample == 0 || ours < archive ? ours : archive;
+        model = sample == 0 || theirs < model ? theirs : model;
     }
     const double count = (double)calls * (double)rounds;
     printf("%.1f %.1f\n", archive / count, model / count);
@@ -413,7 +425,7 @@ int main(int argc, char **argv)
         if (argc == 1) {
             printf("%s %u\n", w->name, calls);
         } else if (strcmp(argv[1], "time") == 0) {
-            print_time(w, calls, rounds);
+            print_time(w, calls);
         } else if (strcmp(argv[1], "stack") == 0) {
             print_stack(w);
         } else {

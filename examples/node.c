@@ -13,6 +13,11 @@ typedef struct {
 
 enum { UNIT = 5 };
 
+static uint8_t position(const vehicle *of)
+{
+    return (uint8_t)of->node.own;
+}
+
 static void print_bytes(const uint8_t *bytes, size_t count)
 {
     for (size_t i = 0; i < count; i++) {
@@ -33,13 +38,12 @@ static void hold(castanhiu_record *record, uint16_t identifier, const char *byte
 /* Offers one frame to a vehicle: where a message is complete, says where it lies and how long it is. */
 static castanhiu_outcome offered(vehicle *to, castanhiu_frame frame, uint32_t stamp, const uint8_t **message)
 {
-    const castanhiu_receive_answer answer = castanhiu_receive(to->node, to->buffer, sizeof to->buffer, frame.identifier,
-                                                              frame.data, frame.length, stamp);
+    const castanhiu_outcome outcome = castanhiu_receive(&to->node, to->buffer, sizeof to->buffer, frame.identifier, frame.data,
+                                                        frame.length, stamp);
     static uint8_t single[8];
-    to->node = answer.node;
     memcpy(single, frame.data, sizeof single);
-    *message = (answer.outcome.handed_out == CASTANHIU_TRAIN ? to->buffer : single) + answer.outcome.start;
-    return answer.outcome;
+    *message = (outcome.handed_out == CASTANHIU_TRAIN ? to->buffer : single) + outcome.start;
+    return outcome;
 }
 
 /* A request goes to a trailer, frame by frame; its answer comes back: how many bytes it has. */
@@ -50,7 +54,7 @@ static size_t asked(vehicle *trailer, const char *name, const uint8_t *request, 
     print_bytes(request, length);
     for (size_t i = 0; i < castanhiu_frame_count(length); i++) {
         const uint8_t *message;
-        const castanhiu_outcome outcome = offered(trailer, castanhiu_cut(request, length, i, 3, trailer->node.own, UNIT),
+        const castanhiu_outcome outcome = offered(trailer, castanhiu_cut(request, length, i, 3, position(trailer), UNIT),
                                                   (uint32_t)(100 + 10 * i), &message);
         if (outcome.handed_out != CASTANHIU_NOTHING) {
             const castanhiu_serve_answer served = castanhiu_serve(&trailer->record, message, outcome.length, outcome.functional,
@@ -75,7 +79,7 @@ static void told(vehicle *tester, castanhiu_frame frame, uint32_t stamp)
         printf(" refusal %u", outcome.refusal);
     }
     if (outcome.control != CASTANHIU_NO_CONTROL) { /* also at CASTANHIU_OVER_LONG: overflow */
-        const castanhiu_frame due = castanhiu_flow_control(outcome.control, tester->node.own, outcome.from, UNIT);
+        const castanhiu_frame due = castanhiu_flow_control(outcome.control, position(tester), outcome.from, UNIT);
         printf(" control due: ");
         print_bytes(due.data, due.length);
     } else if (outcome.handed_out == CASTANHIU_TRAIN) {
@@ -92,10 +96,13 @@ int main(void)
     uint8_t first[CASTANHIU_RESPONSE], second[CASTANHIU_RESPONSE];
 
     /* each takes the address after that of the vehicle before it */
-    one.node = castanhiu_take_address(castanhiu_start(UNIT), 0xEB).node;
-    two.node = castanhiu_take_address(castanhiu_start(UNIT), 0xC9).node;
-    tester.node = castanhiu_take_address(castanhiu_start(UNIT), 0xC1).node;
-    printf("positions: %u and %u, and the tester at %u\n", one.node.own, two.node.own, tester.node.own);
+    castanhiu_start(&one.node, UNIT);
+    castanhiu_start(&two.node, UNIT);
+    castanhiu_start(&tester.node, UNIT);
+    castanhiu_take_address(&one.node, 0xEB);
+    castanhiu_take_address(&two.node, 0xC9);
+    castanhiu_take_address(&tester.node, 0xC1);
+    printf("positions: %u and %u, and the tester at %u\n", position(&one), position(&two), position(&tester));
 
     one.record.availability = two.record.availability = 0x7F;
     hold(&one.record, 0xF190, "9BWZZZ377VT004251");
@@ -110,9 +117,9 @@ int main(void)
     printf("on the tester's line:\n");
     uint32_t stamp = 1000;
     for (size_t i = 0; i < castanhiu_frame_count(length); i++, stamp += 20) {
-        told(&tester, castanhiu_cut(second, length, i, two.node.own, tester.node.own, UNIT), stamp);
-        const castanhiu_frame theirs = castanhiu_cut(first, short_length, i, one.node.own, tester.node.own, UNIT);
-        const castanhiu_route_answer route = castanhiu_route(CASTANHIU_PREDECESSOR, two.node.own, true, theirs.identifier,
+        told(&tester, castanhiu_cut(second, length, i, position(&two), position(&tester), UNIT), stamp);
+        const castanhiu_frame theirs = castanhiu_cut(first, short_length, i, position(&one), position(&tester), UNIT);
+        const castanhiu_route_answer route = castanhiu_route(CASTANHIU_PREDECESSOR, position(&two), true, theirs.identifier,
                                                              theirs.data, theirs.length);
         if (theirs.refusal == 0 && route.onward == CASTANHIU_TO_SUCCESSOR) {
             told(&tester, theirs, stamp + 10);
@@ -120,7 +127,7 @@ int main(void)
     }
     /* the second is refused, CASTANHIU_LATE, and closes the reception */
     printf("a first frame, and its next one 151 ms later:\n");
-    told(&tester, castanhiu_cut(second, length, 0, two.node.own, tester.node.own, UNIT), stamp);
-    told(&tester, castanhiu_cut(second, length, 1, two.node.own, tester.node.own, UNIT), stamp + 151);
+    told(&tester, castanhiu_cut(second, length, 0, position(&two), position(&tester), UNIT), stamp);
+    told(&tester, castanhiu_cut(second, length, 1, position(&two), position(&tester), UNIT), stamp + 151);
     return 0;
 }

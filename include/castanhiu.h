@@ -56,10 +56,11 @@ typedef struct { uint8_t refusal; bool kept; uint8_t onward; } castanhiu_route_a
 typedef struct { uint8_t refusal, outcome; float value; int32_t whole; } castanhiu_parameter_answer;
 typedef struct { uint8_t refusal, outcome; } castanhiu_two_bits_answer;                              /* 0 no, 1 yes, 2 error, 3 not available */
 
-/* A reception is closed when all its numbers are 0; open: L, the consecutive frames taken, the last stamp. */
-typedef struct { uint8_t length, taken; uint32_t last; } castanhiu_reception;
-typedef struct { uint8_t own, unit; castanhiu_reception receptions[6]; } castanhiu_node;
-typedef struct { castanhiu_node node; uint8_t refusal; } castanhiu_node_answer;
+/* The node is the host's own memory. A reception is closed when all its numbers are 0; open: L, 7 to 255, the consecutive frames
+ * taken, the last stamp. The own position is 1 to 5, the unit a byte: a node with any other number breaks its rules. */
+typedef struct { uint32_t length, taken, last; } castanhiu_reception;
+typedef struct { uint32_t own, unit; castanhiu_reception receptions[6]; } castanhiu_node;
+typedef struct { uint8_t refusal; } castanhiu_node_answer;
 
 /* The message lies in the frame's data (a single frame) or in the buffer (a train), `length` bytes from `start` on.
  * `from` is the position of the frame's vehicle, for every frame that is not refused and for refusal 11: there control 2,
@@ -70,7 +71,6 @@ typedef struct {
     uint16_t start;
     uint8_t length, control; /* control: due to the vehicle `from` */
 } castanhiu_outcome;
-typedef struct { castanhiu_node node; castanhiu_outcome outcome; } castanhiu_receive_answer;
 
 /* A frame to send: its identifier and its first `length` data bytes; those past them are 0. */
 typedef struct { uint8_t refusal, length; uint32_t identifier; uint8_t data[8]; } castanhiu_frame;
@@ -89,12 +89,13 @@ _Static_assert(sizeof(castanhiu_identifier) == 5 && sizeof(castanhiu_identifier_
 _Static_assert(sizeof(castanhiu_number_answer) == 8 && offsetof(castanhiu_number_answer, number) == 4, "number");
 _Static_assert(sizeof(castanhiu_position_answer) == 2 && sizeof(castanhiu_route_answer) == 3, "position, route");
 _Static_assert(sizeof(castanhiu_parameter_answer) == 12 && sizeof(castanhiu_two_bits_answer) == 2, "readings");
-_Static_assert(sizeof(castanhiu_reception) == 8 && sizeof(castanhiu_node) == 52, "node");
-_Static_assert(sizeof(castanhiu_node_answer) == 56 && offsetof(castanhiu_node_answer, refusal) == 52, "node answer");
-_Static_assert(sizeof(castanhiu_outcome) == 8 && sizeof(castanhiu_receive_answer) == 60, "outcome");
+_Static_assert(sizeof(castanhiu_reception) == 12 && sizeof(castanhiu_node) == 80, "node");
+_Static_assert(offsetof(castanhiu_reception, length) == 0 && offsetof(castanhiu_reception, taken) == 4, "reception");
+_Static_assert(offsetof(castanhiu_node, own) == 0 && offsetof(castanhiu_node, unit) == 4, "node");
+_Static_assert(sizeof(castanhiu_node_answer) == 1 && sizeof(castanhiu_outcome) == 8, "node answer, outcome");
 _Static_assert(sizeof(castanhiu_frame) == 16 && offsetof(castanhiu_frame, data) == 8, "frame");
 _Static_assert(sizeof(castanhiu_record) == 880 && offsetof(castanhiu_record, bytes) == 366, "record");
-_Static_assert(sizeof(castanhiu_record_answer) == 1 && sizeof(castanhiu_serve_answer) == 16, "record answers");
+_Static_assert(sizeof(castanhiu_record_answer) == 1 && sizeof(castanhiu_serve_answer) == 2 * sizeof(size_t), "record answers");
 
 /* Reads the fields of a 29-bit identifier.
  * Refuses: 2 a number of 2^29 or more, 4 R set.
@@ -129,24 +130,25 @@ castanhiu_two_bits_answer castanhiu_read_two_bits(uint8_t raw);
 
 /* A trailer that starts: position 1, all receptions closed.
  * Refuses: nothing.
- * Memory: none; the node is the host's. */
-castanhiu_node castanhiu_start(uint8_t unit);
+ * Memory: the whole node is written, whatever stood there. */
+void castanhiu_start(castanhiu_node *node, uint8_t unit);
 
 /* A fresh node at a position, all receptions closed.
- * Refuses: 1 a position that is not 1 to 5; the node then has that position, and every function refuses it.
- * Memory: none; the node is the host's. */
-castanhiu_node_answer castanhiu_fresh(uint8_t own, uint8_t unit);
+ * Refuses: 1 a position that is not 1 to 5.
+ * Memory: the whole node is written, whatever stood there; where refused, it is left as found. */
+castanhiu_node_answer castanhiu_fresh(castanhiu_node *node, uint8_t own, uint8_t unit);
 
 /* Takes the address after the predecessor's, from whose initialization frame `source` is; a new one closes all receptions.
- * Refuses: 1 a node that breaks its rules, 15 no address to take; the node comes back as found.
- * Memory: none. */
-castanhiu_node_answer castanhiu_take_address(castanhiu_node node, uint8_t source);
+ * Refuses: 1 a node that breaks its rules, 15 no address to take.
+ * Memory: a new address writes the own position and all receptions; otherwise, and where refused, the node is left as found. */
+castanhiu_node_answer castanhiu_take_address(castanhiu_node *node, uint8_t source);
 
-/* Offers one frame to the node; the host keeps the node that comes back, and the same buffer of CASTANHIU_BUFFER bytes.
+/* Offers one frame to the node, with its buffer of CASTANHIU_BUFFER bytes.
  * Refuses: 1 the node or the buffer's length, 2 to 14 the frame; 11, 13 and 14 close that vehicle's reception.
- * Memory: a frame of a train writes its message bytes into the buffer, at 256 x position on; all else is left as found. */
-castanhiu_receive_answer castanhiu_receive(castanhiu_node node, uint8_t *buffer, size_t buffer_length, uint32_t identifier,
-                                           const uint8_t *data, size_t data_length, uint32_t stamp_ms);
+ * Memory: of the node that one reception changes; a frame of a train writes its message bytes into the buffer, at 256 x position on;
+ * all else is left as found. */
+castanhiu_outcome castanhiu_receive(castanhiu_node *node, uint8_t *buffer, size_t buffer_length, uint32_t identifier,
+                                    const uint8_t *data, size_t data_length, uint32_t stamp_ms);
 
 /* The frame of flow control that an outcome says is due: CASTANHIU_CONTINUE or CASTANHIU_OVERFLOW.
  * Refuses: 16 another control, positions over 5 or equal.
@@ -165,8 +167,8 @@ castanhiu_frame castanhiu_cut(const uint8_t *message, size_t length, size_t numb
 
 /* Whether a record keeps its rules.
  * Refuses: 1 a record that does not.
- * Memory: the record goes in by value. */
-castanhiu_record_answer castanhiu_record_check(castanhiu_record record);
+ * Memory: the record is left as found. */
+castanhiu_record_answer castanhiu_record_check(const castanhiu_record *record);
 
 /* Answers one request; the response has CASTANHIU_RESPONSE bytes, of which `length` are sent, none where silent.
  * Refuses: 1 a record that breaks its rules, 17 a request of 0 or over 255 bytes, a response buffer of another length.

@@ -126,7 +126,7 @@ static castanhiu_node handed(const model_node *node)
     return to;
 }
 
-/* The node as it came back: a reception that is as it was handed in stays as it stands. */
+/* The node as the call left it: a reception that is as it was handed in stays as it stands. */
 static void came_back(model_node *node, const castanhiu_node *back)
 {
     const castanhiu_node was = handed(node);
@@ -144,45 +144,44 @@ static void came_back(model_node *node, const castanhiu_node *back)
 /* A node that breaks its rules takes no address, whatever the predecessor's. */
 uint8_t model_node_keeps_rules(const model_node *node)
 {
-    return castanhiu_take_address(handed(node), 0xEB).refusal != CASTANHIU_RULES_BROKEN;
+    castanhiu_node lent = handed(node);
+    return castanhiu_take_address(&lent, 0xEB).refusal != CASTANHIU_RULES_BROKEN;
 }
 
+/* The whole node is written, whatever stood there. */
 model_node model_start(uint8_t unit)
 {
-    const castanhiu_node a = castanhiu_start(unit);
+    castanhiu_node lent;
+    memset(&lent, 0xA5, sizeof lent);
+    castanhiu_start(&lent, unit);
     model_node node = {0};
-    came_back(&node, &a);
+    came_back(&node, &lent);
     return node;
 }
 
-/* The node that comes with a refusal has the position and the unit that were asked for; the model's has none. */
-model_fresh_node model_fresh(uint32_t position, uint8_t unit)
+uint8_t model_fresh(model_node *node, uint32_t position, uint8_t unit)
 {
-    const castanhiu_node_answer a = castanhiu_fresh(byte(position), unit);
-    model_fresh_node fresh = {.refusal = a.refusal};
-    came_back(&fresh.node, &a.node);
-    if (a.refusal != 0) {
-        HOLDS(a.node.own == byte(position) && a.node.unit == unit);
-        fresh.node.own = 0;
-        fresh.node.unit = 0;
-    }
-    return fresh;
+    castanhiu_node lent = handed(node);
+    const castanhiu_node_answer a = castanhiu_fresh(&lent, byte(position), unit);
+    came_back(node, &lent);
+    return a.refusal;
 }
 
 uint8_t model_take_address(model_node *node, uint8_t predecessor)
 {
-    const castanhiu_node_answer a = castanhiu_take_address(handed(node), predecessor);
-    came_back(node, &a.node);
+    castanhiu_node lent = handed(node);
+    const castanhiu_node_answer a = castanhiu_take_address(&lent, predecessor);
+    came_back(node, &lent);
     return a.refusal;
 }
 
 model_outcome model_receive(model_node *node, uint8_t *buffer, size_t buffer_length, uint32_t number, const uint8_t *data,
                             size_t data_length, uint32_t stamp)
 {
-    const castanhiu_receive_answer a = castanhiu_receive(handed(node), LENT(buffer), buffer_length, number, LENT(data),
-                                                         within(data, data_length), stamp);
-    came_back(node, &a.node);
-    const castanhiu_outcome o = a.outcome;
+    castanhiu_node lent = handed(node);
+    const castanhiu_outcome o = castanhiu_receive(&lent, LENT(buffer), buffer_length, number, LENT(data),
+                                                  within(data, data_length), stamp);
+    came_back(node, &lent);
     /* the sender is said of every frame that is taken and of an over-long one, and of no other */
     HOLDS(o.from == (o.refusal == 0 || o.refusal == CASTANHIU_OVER_LONG ? model_position_of((uint8_t)number) : 0));
     return (model_outcome){
@@ -242,13 +241,16 @@ static castanhiu_record recorded(const model_record *record)
 
 uint8_t model_record_keeps_rules(const model_record *record)
 {
-    return castanhiu_record_check(recorded(record)).refusal == 0;
+    const castanhiu_record lent = recorded(record);
+    const castanhiu_record_answer a = castanhiu_record_check(&lent);
+    HOLDS(memcmp(&lent, record, offsetof(castanhiu_record, held) + 1) == 0);
+    return a.refusal == 0;
 }
 
 /* The mask of a record that holds nothing. */
 uint8_t model_mask_keeps_rule(uint8_t mask)
 {
-    return castanhiu_record_check((castanhiu_record){.availability = mask}).refusal == 0;
+    return castanhiu_record_check(&(castanhiu_record){.availability = mask}).refusal == 0;
 }
 
 model_answer model_serve(model_record *record, const uint8_t *request, size_t request_length, uint8_t functional,

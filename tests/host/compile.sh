@@ -1,15 +1,17 @@
 # Compiles C against the archive and runs it, for the scripts that source this from the project's root.
 #
-#     compiled PROGRAM FLAGS.. FILES..    writes PROGRAM
+#     compiled PROGRAM FLAGS.. FILES..    writes PROGRAM, for x86-64
 #     running PROGRAM ARGUMENTS..         runs it, behind the words of `runner`
+#     own PROGRAM FLAGS.. FILES..         writes PROGRAM, for the machine itself; fails where `has_own` does
 #
-# The archive is for x86-64. There the machine's own `cc` compiles; elsewhere, and where KIT=1 is set, the kit's clang does,
-# with the C library that the kit brings, and on another processor the kit's emulator runs the program.
+# The archive that rt writes is for x86-64. There the machine's own `cc` compiles; elsewhere, and where KIT=1 is set, the kit's clang
+# does, with the C library that the kit brings, and on another processor the kit's emulator runs the program.
 kit=$(dirname "$(dirname "$(rt doc)")")
 tools=$kit/on/$(uname -m)/toolchain
 library=$tools/lib
 host=tests/host
 flags='-std=c11 -Wall -Wextra -Werror -Iinclude'
+asked=${KIT:-0}
 if [ "$(uname -m)" != x86_64 ]; then KIT=1; fi
 
 compiled() {
@@ -49,3 +51,13 @@ if [ "${KIT:-0}" = 1 ]; then
 fi
 
 running() { "${runner[@]}" "$@"; }
+
+# What links no archive for x86-64 needs no emulator: the machine's own `cc` compiles it, unless the kit's was asked for.
+has_own() { [ "$asked" != 1 ] && command -v "${CC:-cc}" >/dev/null; }
+
+own() {
+    local program=$1
+    shift
+    # shellcheck disable=SC2086
+    has_own && ${CC:-cc} $flags "$@" -o "$program"
+}

@@ -267,29 +267,54 @@ static void same_node(const castanhiu_node *a, const model_node *m)
     }
 }
 
+/* One number where a byte is meant is none; where its low byte is what stood there, a reader of bytes would find nothing wrong. */
+static void widen(castanhiu_node *n)
+{
+    castanhiu_reception *const r = &n->receptions[below(6)];
+    uint32_t *const numbers[] = {&n->own, &n->unit, &r->length, &r->taken};
+    uint32_t *const number = numbers[below(4)];
+    *number = OF(*number + 256, *number + 65536, *number + 0xFFFFFF00, 256 + below(256), 256, 0xFFFFFFFF, 0x80000000 | any(),
+                 256 + below(0x7FFFFFFF), 0x2AAAAAAB + below(42), 0x55555556 + below(42), 0xAAAAAAAB + below(42));
+}
+
+static int is_wide(const castanhiu_node *n)
+{
+    int wide = n->own > 255 || n->unit > 255;
+    for (unsigned p = 0; p < 6; p++) {
+        wide |= n->receptions[p].length > 255 || n->receptions[p].taken > 255;
+    }
+    return wide;
+}
+
+static unsigned long wide;
+
 /* A node that mostly keeps its rules, with some receptions open at any of their frames. */
 static castanhiu_node a_node(void)
 {
-    castanhiu_node n = castanhiu_start((uint8_t)OF(5, 0, 255, any() & 0xFF));
-    n.own = one_in(20) ? a_position() : (uint8_t)(1 + below(5));
+    castanhiu_node n;
+    castanhiu_start(&n, (uint8_t)OF(5, 0, 255, any() & 0xFF));
+    n.own = one_in(20) ? a_position() : 1 + below(5);
     for (unsigned p = 0; p < 6; p++) {
         if (one_in(2)) {
             const uint32_t length = one_in(4) ? OF(7, 11, 12, 255, 254) : 7 + below(249);
-            n.receptions[p] = (castanhiu_reception){(uint8_t)length, (uint8_t)below((length - 6) / 6 + 1), any()};
+            n.receptions[p] = (castanhiu_reception){length, below((length - 6) / 6 + 1), any()};
         }
     }
     if (one_in(10)) { /* one number damaged */
         castanhiu_reception *const r = &n.receptions[below(6)];
         switch (below(3)) {
         case 0:
-            r->length = (uint8_t)OF(0, 1, 6, 7, any() & 0xFF);
+            r->length = OF(0, 1, 6, 7, any() & 0xFF);
             break;
         case 1:
-            r->taken = (uint8_t)OF(0, 1, r->length / 6, r->length / 6 + 1, 41, 42, 255, any() & 0xFF);
+            r->taken = OF(0, 1, r->length / 6, r->length / 6 + 1, 41, 42, 255, any() & 0xFF);
             break;
         default:
             r->last = OF(0, 1, any());
         }
+    }
+    if (one_in(8)) {
+        widen(&n);
     }
     return n;
 }
@@ -299,9 +324,10 @@ static void nodes(unsigned long count)
     begin("start");
     while (cases < count) {
         const uint8_t unit = (uint8_t)any();
-        const castanhiu_node a = castanhiu_start(unit);
+        castanhiu_node n = a_node();
+        castanhiu_start(&n, unit);
         const model_node m = model_start(unit);
-        same_node(&a, &m);
+        same_node(&n, &m);
         answered(0);
     }
     end();
@@ -309,29 +335,29 @@ static void nodes(unsigned long count)
     begin("fresh");
     while (cases < count) {
         const uint8_t own = a_position(), unit = (uint8_t)any();
-        const castanhiu_node_answer a = castanhiu_fresh(own, unit);
-        model_fresh_node m = model_fresh(own, unit);
-        SAME(a.refusal, m.refusal);
-        if (m.refusal != 0) { /* the archive then gives the position back, so that the node is refused everywhere */
-            m.node.own = own;
-            m.node.unit = unit;
-        }
-        same_node(&a.node, &m.node);
-        answered(m.refusal);
+        castanhiu_node n = a_node();
+        model_node m = modelled(&n);
+        const castanhiu_node_answer a = castanhiu_fresh(&n, own, unit);
+        SAME(a.refusal, model_fresh(&m, own, unit));
+        same_node(&n, &m);
+        answered(a.refusal);
     }
     end();
 
     begin("take_address");
+    wide = 0;
     while (cases < count) {
-        const castanhiu_node n = a_node();
-        const uint8_t source = one_in(4) && n.own < 6 && n.own > 0 ? addresses[n.own - 1] : an_address();
-        const castanhiu_node_answer a = castanhiu_take_address(n, source);
+        castanhiu_node n = a_node();
         model_node m = modelled(&n);
+        const uint8_t source = one_in(4) && n.own < 6 && n.own > 0 ? addresses[n.own - 1] : an_address();
+        wide += is_wide(&n);
+        const castanhiu_node_answer a = castanhiu_take_address(&n, source);
         SAME(a.refusal, model_take_address(&m, source));
-        same_node(&a.node, &m);
+        same_node(&n, &m);
         answered(a.refusal);
     }
     end();
+    printf("    of them %lu to nodes that hold a number over 255 where a byte is meant\n", wide);
 }
 
 /* ---- the receiver -------------------------------------------------------------------------- */
@@ -344,30 +370,30 @@ static unsigned offer(castanhiu_node *node, model_node *twin, size_t buffer_leng
 {
     uint8_t copy[64];
     memcpy(copy, data, data_length);
-    const castanhiu_receive_answer a = castanhiu_receive(*node, ours, buffer_length, number, data, data_length, stamp);
+    wide += is_wide(node);
+    const castanhiu_outcome a = castanhiu_receive(node, ours, buffer_length, number, data, data_length, stamp);
     const model_outcome m = model_receive(twin, theirs, buffer_length, number, data, data_length, stamp);
     SAME_BYTES(data, copy, data_length);
-    SAME(a.outcome.refusal, m.refusal);
-    SAME(a.outcome.handed_out, m.kind);
-    SAME(a.outcome.functional, m.functional);
-    SAME(a.outcome.start, m.start);
-    SAME(a.outcome.length, m.length);
-    SAME(a.outcome.control, m.control);
+    SAME(a.refusal, m.refusal);
+    SAME(a.handed_out, m.kind);
+    SAME(a.functional, m.functional);
+    SAME(a.start, m.start);
+    SAME(a.length, m.length);
+    SAME(a.control, m.control);
     /* whom the frame is from: the archive says so of every frame that is taken, and of an over-long one */
-    SAME(a.outcome.from, m.refusal == 0 || m.refusal == 11 ? model_position_of(number & 0xFF) : 0);
+    SAME(a.from, m.refusal == 0 || m.refusal == 11 ? model_position_of(number & 0xFF) : 0);
     if (m.kind != MODEL_NOTHING) {
-        SAME(a.outcome.from, m.from);
-        SAME(a.outcome.handed_out == CASTANHIU_TRAIN ? MODEL_IN_BUFFER : MODEL_IN_DATA, m.place);
+        SAME(a.from, m.from);
+        SAME(a.handed_out == CASTANHIU_TRAIN ? MODEL_IN_BUFFER : MODEL_IN_DATA, m.place);
     }
     if (m.control != 0) {
-        SAME(a.outcome.from, m.control_to);
+        SAME(a.from, m.control_to);
         controls++;
     }
-    same_node(&a.node, twin);
+    same_node(node, twin);
     SAME_BYTES(ours, theirs, sizeof ours);
     trains += m.kind == MODEL_TRAIN;
     singles += m.kind == MODEL_SINGLE;
-    *node = a.node;
     answered(m.refusal);
     return m.refusal;
 }
@@ -453,7 +479,10 @@ static size_t stray_frame(uint8_t *data, uint8_t unit, uint32_t *format, uint32_
 /* One node through a long sequence in which several vehicles' trains run beside each other, complete and go wrong. */
 static void sequence(unsigned long frames)
 {
-    castanhiu_node node = one_in(4) ? a_node() : castanhiu_fresh((uint8_t)(1 + below(5)), (uint8_t)any()).node;
+    castanhiu_node node = a_node();
+    if (!one_in(4) || is_wide(&node)) {
+        castanhiu_fresh(&node, (uint8_t)(1 + below(5)), (uint8_t)any());
+    }
     if (model_node_keeps_rules(&(model_node){.own = node.own}) == 0) {
         node.own = 1;
     }
@@ -474,9 +503,9 @@ static void sequence(unsigned long frames)
         fill(data, 10);
         size_t length;
         if (one_in(wrong)) {
-            length = stray_frame(data, node.unit, &format, &specific, &source);
+            length = stray_frame(data, (uint8_t)node.unit, &format, &specific, &source);
         } else {
-            length = next_frame(&senders[p], data, node.unit);
+            length = next_frame(&senders[p], data, (uint8_t)node.unit);
         }
         uint32_t number = identifier_of(format, specific, source);
         if (one_in(wrong * 4)) {
@@ -484,16 +513,21 @@ static void sequence(unsigned long frames)
         }
         stamp += one_in(wrong * 2) ? OF(149, 150, 151, 152, 0xFFFFFFFF, 0x80000000) : below(12);
         const size_t buffer_length = one_in(400) ? OF(0, 1535, 1537, 1600) : CASTANHIU_BUFFER;
+        if (one_in(60)) { /* the same frame to the node with one number too wide, first: it is refused, and the sequence goes on */
+            castanhiu_node spoilt = node;
+            widen(&spoilt);
+            model_node other = modelled(&spoilt);
+            offer(&spoilt, &other, buffer_length, number, data, length, stamp);
+        }
         const unsigned refusal = offer(&node, &twin, buffer_length, number, data, length, stamp);
         if ((refusal == 13 || refusal == 14) && !one_in(4)) { /* most senders begin anew; some go on with what is lost */
             senders[p].length = 0;
         }
         if (one_in(300)) { /* an address is taken in the middle of it all */
             const uint8_t from = an_address();
-            const castanhiu_node_answer a = castanhiu_take_address(node, from);
+            const castanhiu_node_answer a = castanhiu_take_address(&node, from);
             SAME(a.refusal, model_take_address(&twin, from));
-            same_node(&a.node, &twin);
-            node = a.node;
+            same_node(&node, &twin);
         }
         if (one_in(200)) {
             senders[below(6)].length = 0;
@@ -504,6 +538,7 @@ static void sequence(unsigned long frames)
 static void receiver(unsigned long count)
 {
     begin("receive");
+    wide = 0;
     while (cases < count) {
         if (one_in(20)) { /* any node, once: damaged states, receptions at any of their frames */
             castanhiu_node node = a_node();
@@ -511,7 +546,7 @@ static void receiver(unsigned long count)
             const unsigned p = below(6);
             uint8_t data[64];
             fill(data, 10);
-            data[0] = node.unit;
+            data[0] = (uint8_t)node.unit;
             data[1] = (uint8_t)(0x20 + (node.receptions[p].taken + 1) % 16);
             const uint32_t specific = node.own < 6 ? addresses[node.own] : 0xFF;
             offer(&node, &twin, CASTANHIU_BUFFER, identifier_of(206, specific, addresses[p]), data, one_in(3) ? below(10) : 8,
@@ -522,6 +557,7 @@ static void receiver(unsigned long count)
     }
     end();
     printf("    of them %lu trains and %lu single frames handed out, %lu flow controls due\n", trains, singles, controls);
+    printf("    of them %lu to nodes that hold a number over 255 where a byte is meant\n", wide);
 }
 
 /* ---- the cutter ---------------------------------------------------------------------------- */
@@ -555,7 +591,7 @@ static void cutter(unsigned long count)
     begin("frame_count");
     while (cases < count) {
         const size_t length = one_in(3) ? OF(0, 1, 6, 7, 11, 12, 255, 256, 0xFFFFFFFF) : one_in(6) ? any() : below(260);
-        const size_t far = one_in(50) ? length + ((size_t)any() << 32) : length;
+        const size_t far = one_in(50) ? (size_t)(length + ((uint64_t)any() << 32)) : length; /* with 32 bits, the same */
         SAME(castanhiu_frame_count(far), model_frame_count(far));
         answered(castanhiu_frame_count(far) == 0 ? 16 : 0);
     }
@@ -730,8 +766,9 @@ static void server(unsigned long count)
         }
         model_record m;
         memcpy(&m, &r, sizeof m);
-        const castanhiu_record_answer a = castanhiu_record_check(r);
+        const castanhiu_record_answer a = castanhiu_record_check(&r);
         SAME(a.refusal, model_record_keeps_rules(&m) ? 0 : 1);
+        SAME_BYTES(&r, &m, offsetof(castanhiu_record, held) + 1);
         answered(a.refusal);
     }
     end();

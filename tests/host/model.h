@@ -116,23 +116,19 @@ model_two_bits model_read_two_bits(uint32_t raw);
 
 /* ---- node and receiver --------------------------------------------------------------------- */
 
+/* A node can hold numbers that are none of its own: it then breaks its rules. */
 typedef struct {
-    uint32_t stamp; /* of the last frame taken */
-    uint8_t open;   /* 0 or 1; when 0, all the others are 0 */
-    uint8_t length; /* L */
-    uint8_t frames; /* k, consecutive frames taken */
+    uint32_t stamp;  /* of the last frame taken */
+    uint32_t length; /* L */
+    uint32_t frames; /* k, consecutive frames taken */
+    uint8_t open;    /* 0 or 1; when 0, all the others are 0 */
 } model_reception;
 
 typedef struct {
     model_reception receptions[MODEL_POSITIONS];
-    uint8_t own;
-    uint8_t unit;
+    uint32_t own;
+    uint32_t unit;
 } model_node;
-
-typedef struct {
-    model_node node;
-    uint8_t refusal;
-} model_fresh_node;
 
 enum { MODEL_NOTHING = 0, MODEL_SINGLE = 1, MODEL_TRAIN = 2 };
 enum { MODEL_NOWHERE = 0, MODEL_IN_DATA = 1, MODEL_IN_BUFFER = 2 };
@@ -156,10 +152,10 @@ uint8_t model_node_keeps_rules(const model_node *node);
 /* A node at position 1, all receptions closed. */
 model_node model_start(uint8_t unit);
 
-/* A fresh node at a position 1 to 5: 1. */
-model_fresh_node model_fresh(uint32_t position, uint8_t unit);
+/* Makes the node fresh at a position 1 to 5; the answer is the refusal: 1, and the node as found. */
+uint8_t model_fresh(model_node *node, uint32_t position, uint8_t unit);
 
-/* Takes the address after that of the predecessor; the answer is the refusal: 1, then 15. */
+/* Takes the address after that of the predecessor; the answer is the refusal: 1, then 15, and the node as found. */
 uint8_t model_take_address(model_node *node, uint8_t predecessor);
 
 /* Offers one frame to the receiver: 1 to 14. */

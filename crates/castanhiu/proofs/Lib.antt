@@ -1,3 +1,2 @@
 -- What belongs to no one function.
-pub mod LawsNumbers
 pub mod Lent

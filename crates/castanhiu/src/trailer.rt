@@ -1,4 +1,4 @@
-// The trailer record: checked by value; served and set where it is lent, of which only the statuses can change.
+// The trailer record, lent: checked, served and set; only its statuses can change.
 ghost use mathlib.Core.Path.{_≡_};
 ghost use Rattle.identifiers.specs.Answers.{answerTold};
 ghost use Rattle.server.specs.Server.{servedOf};
@@ -13,10 +13,10 @@ use server::serve;
 use server::set_status;
 
 #[no_mangle]
-pub extern "C" fn castanhiu_record_check(record: TrailerRecord) -> AnswerTold
-    ensures { λ r. ⌜ r ≡ answerTold (checkedAs «record») ⌝ }
+pub extern "C" fn castanhiu_record_check(record: &TrailerRecord) -> AnswerTold
+    ensures { λ r. ⌜ r ≡ answerTold (checkedAs (now («record» .entry))) ⌝ }
 {
-    check(record).told()
+    check(*record).told()
 }
 
 #[no_mangle]

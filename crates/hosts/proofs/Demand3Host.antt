@@ -6,24 +6,30 @@ use Prim.Native.Nat.{ℕ}
 use borrow.Author.Tests.{eqb-true, eqb-false}
 use lib.Dec.{eqb}
 use Rattle.identifiers.proofs.LawsChoice.{pick-true, pick-false}
+use Rattle.readings.specs.Positions.{placeOf}
 use Rattle.readings.specs.declared.position.Position.{Position}
 use Rattle.receiver.specs.declared.outcome.Outcome.{Outcome}
 use Rattle.receiver.specs.declared.outcome.OutcomeTold.{OutcomeTold}
+use Rattle.receiver.specs.Nodes.{Node, freshNode}
 use Rattle.receiver.specs.Frames.{Frame}
 use Rattle.receiver.specs.Outcomes.{outcomeTold}
+use Rattle.receiver.specs.Receiving.{Received}
+use Rattle.receiver.specs.Lent.{nodeIn, bytesIn}
 use Rattle.receiver.specs.Shown.{toldMessage}
+use Rattle.receiver.proofs.LawsRow.{node-back}
+use Rattle.receiver.proofs.LawsLent.{lent-received, lent-buffer}
+use Rattle.receiver.proofs.LawsBytesKept.{bytes-kept, fresh-bytes}
 use Rattle.trains.specs.Sequences.{Line, start, _▹_, size, Request, ReadAs}
 use Rattle.trains.specs.Runs.{Held, answer, next, offered, handed, requests}
 use Rattle.trains.proofs.LawsRuns.{offered-none, offered-more, requests-none, requests-more, HandsOut, hands-nothing, hands-one}
 use Rattle.trains.specs.Demands.{Fresh}
 use Rattle.trains.proofs.Demand3.{requests-are-the-reading}
-use Rattle.castanhiu.proofs.LawsNumbers.{told-node, told-outcome}
-use Rattle.hosts.specs.Hosts.{hosted, Got, gotFrom, got, inNumbers}
+use Rattle.hosts.specs.Hosts.{Memory, Started, received, told, left, hosted, Got, gotFrom, got, inNumbers}
 
--- ---- the statement, of a node x that starts fresh, held with any buffer of 1,536 bytes
+-- ---- the statement, of a host's memory x that is started so
 -- "The requests it hands out are exactly the single frames and the complete trains standing in that sequence. Each comes once, at its last frame, with the bytes its frames carry":
 -- what the host gets is the reading of the sequence, in numbers; each sequence has a reading, and one only (trains/Demand3.some-reading, one-reading)
-abbrev pub HostGetsTheReading : Position → ℕ → Held → Type 0
+abbrev pub HostGetsTheReading : Position → ℕ → Memory → Type 0
 HostGetsTheReading own unit x = (h : Line) (r : List Request) → ReadAs own unit h r → got x h ≡ inNumbers r
 
 -- ---- the proof
@@ -46,25 +52,54 @@ module _ (at : ℕ) (o : Outcome) (bytes buffer : List ℕ) where
   got-is true e = pick-true _ _ e ∙ ap inNumbers (sym (hands-nothing at bytes buffer o (eqb-true _ _ e)))
   got-is false e = got-one (hands-one at bytes buffer o (eqb-false _ _ e)) e
 
-module _ (x : Held) where
-  hosted-more : (h : Line) (f : Frame) → hosted x (h ▹ f) ≡ next (hosted x h) f
-  unfolding hosted
-  hosted-more h f = rw (told-node (answer (hosted x h) f))
+-- ---- the memory that is lent is the node that is held
+abbrev held : Memory → Held
+held x = record { node = nodeIn (x .numbers); buffer = x .buffer }
 
-  hosted-is : (h : Line) → hosted x h ≡ offered x h
-  unfolding hosted
-  hosted-is start = sym (offered-none x)
-  hosted-is (h ▹ f) = hosted-more h f ∙ ap (λ (y : Held). next y f) (hosted-is h) ∙ sym (offered-more x h f)
+module _ (x : Memory) (f : Frame) (h : bytesIn (nodeIn (x .numbers)) ≡ true) where
+  told-is : outcomeTold (answer (held x) f .outcome) ≡ outcomeTold (received x f .outcome)
+  told-is = ap (λ (r : Received). outcomeTold (r .outcome)) (sym (lent-received (nodeIn (x .numbers)) (x .buffer) (f .identifier) (f .bytes) (f .stamp) h))
 
-  got-requests : (h : Line) → got x h ≡ inNumbers (requests x h)
+  left-is : held (left x f) ≡ next (held x) f
+  left-is =
+      ap₂ (λ (n : Node) (b : List ℕ). record { node = n; buffer = b })
+      (node-back _ ∙ ap (λ (r : Received). r .node) (lent-received (nodeIn (x .numbers)) (x .buffer) (f .identifier) (f .bytes) (f .stamp) h))
+      (lent-buffer (nodeIn (x .numbers)) (x .buffer) (f .identifier) (f .bytes) (f .stamp) h)
+
+module _ (x : Memory) (bytes : bytesIn (nodeIn (x .numbers)) ≡ true) where
+  hosted-is : (h : Line) → (held (hosted x h) ≡ offered (held x) h) × (bytesIn (nodeIn (hosted x h .numbers)) ≡ true)
+  unfolding hosted
+  hosted-is start = (sym (offered-none (held x)), bytes)
+  hosted-is (h ▹ f) = more (hosted-is h)
+    where
+      more : (held (hosted x h) ≡ offered (held x) h) × (bytesIn (nodeIn (hosted x h .numbers)) ≡ true)
+          → (held (left (hosted x h) f) ≡ offered (held x) (h ▹ f)) × (bytesIn (nodeIn (left (hosted x h) f .numbers)) ≡ true)
+      more y = (
+        left-is (hosted x h) f (y .1) ∙ ap (λ (z : Held). next z f) (y .0) ∙ sym (offered-more (held x) h f),
+        ap (λ (z : Held). bytesIn (z .node)) (left-is (hosted x h) f (y .1)) ∙ bytes-kept (nodeIn (hosted x h .numbers)) (y .1) (hosted x h .buffer) (f .identifier) (f .bytes) (f .stamp),
+      )
+
+  got-requests : (h : Line) → got x h ≡ inNumbers (requests (held x) h)
   unfolding got hosted inNumbers
-  got-requests start = ap inNumbers (sym (requests-none x))
-  got-requests (h ▹ f) =
-      ap (λ (t : OutcomeTold). gotFrom (size h) t (f .bytes) (next (hosted x h) f .buffer) ++ got x h) (told-outcome (answer (hosted x h) f))
-      ∙ ap₂ (λ (y : Held) (rest : List Got). gotFrom (size h) (outcomeTold (answer y f .outcome)) (f .bytes) (next y f .buffer) ++ rest) (hosted-is h) (got-requests h)
-      ∙ ap (λ (l : List Got). l ++ inNumbers (requests x h)) (got-is (size h) (answer (offered x h) f .outcome) (f .bytes) (next (offered x h) f .buffer) _ refl)
-      ∙ sym (in-numbers-append (handed (size h) (answer (offered x h) f .outcome) (f .bytes) (next (offered x h) f .buffer)) (requests x h))
-      ∙ ap inNumbers (sym (requests-more x h f))
+  got-requests start = ap inNumbers (sym (requests-none (held x)))
+  got-requests (h ▹ f) = more (got-requests h)
+    where
+      more : got x h ≡ inNumbers (requests (held x) h) → gotFrom (size h) (told (hosted x h) f) (f .bytes) (left (hosted x h) f .buffer) ++ got x h ≡ inNumbers (requests (held x) (h ▹ f))
+      more rest =
+          let y = hosted-is h in
+          ap₂ (λ (t : OutcomeTold) (z : Held). gotFrom (size h) t (f .bytes) (z .buffer) ++ got x h) (sym (told-is (hosted x h) f (y .1))) (left-is (hosted x h) f (y .1))
+          ∙ ap₂ (λ (z : Held) (rest : List Got). gotFrom (size h) (outcomeTold (answer z f .outcome)) (f .bytes) (next z f .buffer) ++ rest) (y .0) rest
+          ∙ ap (λ (l : List Got). l ++ inNumbers (requests (held x) h)) (got-is (size h) (answer (offered (held x) h) f .outcome) (f .bytes) (next (offered (held x) h) f .buffer) _ refl)
+          ∙ sym (in-numbers-append (handed (size h) (answer (offered (held x) h) f .outcome) (f .bytes) (next (offered (held x) h) f .buffer)) (requests (held x) h))
+          ∙ ap inNumbers (sym (requests-more (held x) h f))
 
-pub host-gets-the-reading : (own : Position) (unit : ℕ) (x : Held) → Fresh own unit x → HostGetsTheReading own unit x
-host-gets-the-reading own unit x fresh h r y = got-requests x h ∙ ap inNumbers (requests-are-the-reading own unit x fresh h r .0 y)
+module _ (own : Position) (unit : ℕ) (x : Memory) (s : Started own unit x) where
+  fresh-node : nodeIn (x .numbers) ≡ freshNode (placeOf own) unit
+  fresh-node = ap nodeIn (s .numbers) ∙ node-back (freshNode (placeOf own) unit)
+
+  fresh : Fresh own unit (held x)
+  fresh = record { trailer = s .trailer; node = fresh-node; room = s .room }
+
+  pub host-gets-the-reading : HostGetsTheReading own unit x
+  host-gets-the-reading h r y =
+      got-requests x (ap bytesIn fresh-node ∙ fresh-bytes (placeOf own) unit (s .byte)) h ∙ ap inNumbers (requests-are-the-reading own unit (held x) fresh h r .0 y)

@@ -4,7 +4,7 @@ use mathlib.Core.Bool.{Bool, true, false, false≢true, _&&_}
 use mathlib.Core.List.{List, [], _++_, append-nil}
 use mathlib.Core.Logic.{⊎-elim}
 use Prim.Native.Nat.{ℕ, zero, suc, _+_, _<_, _≤_}
-use native.Mathlib.Nat.{add-zero, add-suc, eq-or-lt-of-le}
+use native.Mathlib.Nat.{eq-or-lt-of-le}
 use native.Mathlib.Numerals.{add-one}
 use native.Mathlib.Omega.{arith}
 use borrow.Author.Tests.{ltb-true, ltb-false, le-ltb, lt-ltb}
@@ -12,7 +12,7 @@ use lib.Dec.{ltb}
 use lib.ListN.{length, length-append}
 use Rattle.identifiers.specs.Choice.{pick, both}
 use Rattle.identifiers.specs.Below.{allBelow, countBelow, listBelow, firstBelow}
-use Rattle.identifiers.proofs.LawsChoice.{both-false, true-after, both-assoc, both-true, and-is}
+use Rattle.identifiers.proofs.LawsChoice.{both-false, both-swap, both-true, and-is}
 
 -- ---- allBelow
 pub all-none : (p : ℕ → Bool) → allBelow p 0 ≡ true
@@ -50,11 +50,6 @@ all-at p i (suc n) h l =
     let e = both-true (allBelow p n) (p n) h in
     ⊎-elim (λ (q : i ≡ n). ap p q ∙ e .1) (λ (q : i < n). all-at p i n (e .0) q) (eq-or-lt-of-le (omega arith))
 
--- all but the last are known to hold: the last decides
-pub all-last : (p : ℕ → Bool) (n : ℕ) → allBelow p n ≡ true → allBelow p (n + 1) ≡ p n
-unfolding allBelow both
-all-last p n h = rw (add-one n, h)
-
 -- a loop that asks a test of each, `sound = sound & p(n)`
 pub all-turn : (p : ℕ → Bool) (n : ℕ) {sound : Bool} → sound ≡ allBelow p n → (sound && p n) ≡ allBelow p (n + 1)
 unfolding allBelow
@@ -66,10 +61,10 @@ all-each p zero h = refl
 all-each p (suc n) h = rw (all-each p n (λ i l. h i (omega arith)), h n (omega arith))
 
 -- a row of tests is two rows, one behind the other
-pub all-split : (p : ℕ → Bool) (m n : ℕ) → allBelow p (m + n) ≡ both (allBelow p m) (allBelow (λ i. p (m + i)) n)
-unfolding allBelow
-all-split p m zero = rw add-zero (sym (true-after (allBelow p m)))
-all-split p m (suc n) = rw (add-suc, all-split p m n) (both-assoc (allBelow p m) (allBelow (λ i. p (m + i)) n) (p (m + n)))
+pub all-both : (p q : ℕ → Bool) (n : ℕ) → both (allBelow p n) (allBelow q n) ≡ allBelow (λ i. both (p i) (q i)) n
+unfolding allBelow both
+all-both p q zero = refl
+all-both p q (suc n) = both-swap (allBelow p n) (p n) (allBelow q n) (q n) ∙ ap (λ (b : Bool). both b (both (p n) (q n))) (all-both p q n)
 
 -- ---- countBelow
 pub count-none : (p : ℕ → Bool) → countBelow p 0 ≡ 0

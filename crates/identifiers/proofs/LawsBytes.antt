@@ -1,7 +1,7 @@
 -- Laws of bytes put into a buffer: what stands there, before and behind; the first run, then the next one; a loop that copies; a loop that puts f 0, f 1, ..
 use mathlib.Core.Path.{_≡_, refl, sym, ap, ap₂, _∙_}
 use mathlib.Core.List.{List, [], _∷_, _++_, append-nil, append-assoc}
-use Prim.Native.Nat.{ℕ, _+_, _≤_, _<_}
+use Prim.Native.Nat.{ℕ, suc, _+_, _≤_, _<_}
 use native.Mathlib.Nat.{zero-add}
 use native.Mathlib.Numerals.{add-one}
 use native.Mathlib.Omega.{arith}
@@ -25,6 +25,11 @@ pub written-append : (buffer : List ℕ) (at : ℕ) (xs ys : List ℕ) → writt
 unfolding written
 written-append buffer at [] ys = ap (λ (k : ℕ). written buffer k ys) (omega arith)
 written-append buffer at (a ∷ xs) ys = written-append (set buffer at a) (at + 1) xs ys ∙ ap (λ (k : ℕ). written (written (set buffer at a) (at + 1) xs) k ys) (omega arith)
+
+pub written-behind : (a : ℕ) (buffer : List ℕ) (at : ℕ) (bytes : List ℕ) → written (a ∷ buffer) (suc at) bytes ≡ a ∷ written buffer at bytes
+unfolding written
+written-behind a buffer at [] = refl
+written-behind a buffer at (b ∷ bytes) = ap (λ (k : ℕ). written (a ∷ set buffer at b) k bytes) (omega arith) ∙ written-behind a (set buffer at b) (at + 1) bytes
 
 -- up to the end of the bytes: what stood before them, and they
 pub take-written : (buffer : List ℕ) (at : ℕ) (bytes : List ℕ) → at + length bytes ≤ length buffer → take (at + length bytes) (written buffer at bytes) ≡ take at buffer ++ bytes

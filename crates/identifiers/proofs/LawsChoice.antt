@@ -67,6 +67,13 @@ unfolding both
 true-after true = refl
 true-after false = refl
 
+pub both-swap : (a b c d : Bool) → both (both a b) (both c d) ≡ both (both a c) (both b d)
+unfolding both
+both-swap true true c d = refl
+both-swap true false true d = refl
+both-swap true false false d = refl
+both-swap false b c d = refl
+
 pub both-assoc : (a b c : Bool) → both (both a b) c ≡ both a (both b c)
 unfolding both
 both-assoc true b c = refl

@@ -1,6 +1,6 @@
 // Document 000: frames offered to a node, what it says to them and the message that it shows; messages cut into frames, and read back.
 ghost use mathlib.Core.Path.{_≡_};
-ghost use Rattle.receiver.specs.Receiving.{receivedOf, bufferAfter};
+ghost use Rattle.receiver.specs.Lent.{nodeIn, numbersOf, lentReceived, lentBuffer};
 use published_lines::*;
 use receiver::*;
 
@@ -27,8 +27,7 @@ fn accepted(told: OutcomeTold) {
 }
 
 // The outcome in words, and the message that is shown.
-fn tell<'a>(data: &'a [u8], buffer: &'a [u8], outcome: Outcome) {
-    let told = outcome.told();
+fn tell<'a>(data: &'a [u8], buffer: &'a [u8], told: OutcomeTold) {
     if told.refusal == 0 {
         accepted(told);
     } else {
@@ -36,7 +35,7 @@ fn tell<'a>(data: &'a [u8], buffer: &'a [u8], outcome: Outcome) {
     }
     let words = b"|, continue due|, overflow due|";
     say(part(words, b'|', told.control as usize));
-    let text = shown(data, buffer, outcome);
+    let text = shown(data, buffer, told);
     if text.len() != 0 {
         say(b", message");
         say_bytes(text);
@@ -44,23 +43,26 @@ fn tell<'a>(data: &'a [u8], buffer: &'a [u8], outcome: Outcome) {
     say(b"\n");
 }
 
-// The node after the frame.
-fn offer(node: Node, buffer: &mut [u8], identifier: u32, data: &[u8], stamp: u32) -> Node
-    ensures { λ r. ⌜ (r ≡ receivedOf node (now (buffer .entry)) identifier (now («data» .entry)) stamp .node)
-        × (now (buffer .exit) ≡ bufferAfter node (now (buffer .entry)) identifier (now («data» .entry)) stamp) ⌝ }
+fn offer(node: &mut [u32; NODE], buffer: &mut [u8], identifier: u32, data: &[u8], stamp: u32)
+    ensures { λ _. ⌜ (now (node .exit) ≡ numbersOf (lentReceived (nodeIn (now (node .entry))) (now (buffer .entry)) identifier (now («data» .entry)) stamp .node))
+        × (now (buffer .exit) ≡ lentBuffer (nodeIn (now (node .entry))) (now (buffer .entry)) identifier (now («data» .entry)) stamp) ⌝ }
 {
-    let received = receive(node, buffer, identifier, data, stamp);
-    let outcome = received.outcome;
-    tell(data, buffer, outcome);
-    let next = received.node;
-    next
+    let told = receive(node, buffer, identifier, data, stamp);
+    tell(data, buffer, told);
+}
+
+// A trailer that starts, with unit 5.
+fn started() -> [u32; NODE] {
+    let mut node = [0; NODE];
+    start(&mut node, 5);
+    node
 }
 
 // A name, then frames one after the other to trailer 1 with unit 5: data (F: FIRST, S: SECOND), an identifier, a stamp, and a line.
 pub fn sequence(case: &[u8]) {
     let count = marks(case, b'/');
     let mut buffer = [0u8; BUFFER];
-    let mut node = start(5);
+    let mut node = started();
     let mut k = 0;
     while k < count {
         k += 1;
@@ -69,26 +71,33 @@ pub fn sequence(case: &[u8]) {
         say_case(part(frame, b';', 3), frame);
         let identifier = value(frame, 1, 16);
         let stamp = value(frame, 2, 16);
-        let next = match letter(frame) {
-            b'F' => offer(node, &mut buffer, identifier, &FIRST, stamp),
-            b'S' => offer(node, &mut buffer, identifier, &SECOND, stamp),
-            _ => offer(node, &mut buffer, identifier, part(frame, b';', 0), stamp),
-        };
-        node = next;
+        match letter(frame) {
+            b'F' => offer(&mut node, &mut buffer, identifier, &FIRST, stamp),
+            b'S' => offer(&mut node, &mut buffer, identifier, &SECOND, stamp),
+            _ => offer(
+                &mut node,
+                &mut buffer,
+                identifier,
+                part(frame, b';', 0),
+                stamp,
+            ),
+        }
     }
 }
 
 // A name, data and an identifier: the frame is offered alone, to trailer 1 with unit 5.
 pub fn offered(case: &[u8]) {
     let mut buffer = [0u8; BUFFER];
+    let mut node = started();
     let data = part(case, b';', 1);
-    offer(start(5), &mut buffer, value(case, 2, 16), data, 0);
+    offer(&mut node, &mut buffer, value(case, 2, 16), data, 0);
 }
 
 // The frame 3E 00 to unit 5.
-fn presence(node: Node, identifier: u32) {
+fn presence(found: [u32; NODE], identifier: u32) {
     let mut buffer = [0u8; BUFFER];
-    offer(node, &mut buffer, identifier, &PRESENCE, 0);
+    let mut node = found;
+    offer(&mut node, &mut buffer, identifier, &PRESENCE, 0);
 }
 
 // A channel, its identifier, and its trailer: the identifier is read apart, then a frame under it is offered to the trailer.
@@ -96,45 +105,50 @@ pub fn channel(line: &[u8], case: &[u8]) {
     crate::document_003::read(value(case, 1, 16));
     say_case(line, case);
     say(b"offered to its trailer: ");
-    let made = fresh(byte(case, 2, 10), 5);
-    presence(made.node, value(case, 1, 16));
+    let mut node = [0; NODE];
+    fresh(&mut node, byte(case, 2, 10), 5);
+    presence(node, value(case, 1, 16));
 }
 
 pub fn node(case: &[u8]) {
-    let made = fresh(byte(case, 0, 10), 5);
-    let answer = made.answer;
+    let mut node = [0; NODE];
+    let answer = fresh(&mut node, byte(case, 0, 10), 5);
     if refused(answer.number()) {
         say(b"offered a frame: ");
     }
-    presence(made.node, FUNCTIONAL);
+    presence(node, FUNCTIONAL);
 }
 
 // The length, the count and the stamp of the last reception.
 pub fn under_way(case: &[u8]) {
-    let mut node = start(5);
-    node.receptions[5].length = byte(case, 0, 10);
-    node.receptions[5].taken = byte(case, 1, 10);
-    node.receptions[5].last = value(case, 2, 10);
+    let mut node = started();
+    node[17] = value(case, 0, 10);
+    node[18] = value(case, 1, 10);
+    node[19] = value(case, 2, 10);
     presence(node, FUNCTIONAL);
 }
 
 pub fn given(case: &[u8]) {
     let mut buffer = [0u8; 1537];
+    let mut node = started();
     let length = (value(case, 0, 10) % 1538) as usize;
-    offer(start(5), &mut buffer[..length], FUNCTIONAL, &PRESENCE, 0);
+    offer(&mut node, &mut buffer[..length], FUNCTIONAL, &PRESENCE, 0);
+}
+
+// The lowest byte of a number.
+fn low(number: u32) -> u8 {
+    (number % 256) as u8
 }
 
 // The position of a node whose reception of the tractor is open, and the address that it takes.
 pub fn hears(case: &[u8]) {
-    let mut node = start(5);
-    node.own = byte(case, 0, 10);
-    node.receptions[0].length = 11;
-    let changed = take_address(node, byte(case, 1, 16));
-    let next = changed.node;
-    let answer = changed.answer;
+    let mut node = started();
+    node[0] = value(case, 0, 10);
+    node[2] = 11;
+    let answer = take_address(&mut node, byte(case, 1, 16));
     if !refused(answer.number()) {
-        say_number(b"own position ", next.own as usize);
-        say_byte(b", reception 0 of length ", next.receptions[0].length);
+        say_number(b"own position ", low(node[0]) as usize);
+        say_byte(b", reception 0 of length ", low(node[2]));
         say(b"\n");
     }
 }
@@ -143,7 +157,7 @@ pub fn hears(case: &[u8]) {
 fn read_back(message: &[u8]) {
     let count = frame_count(message.len());
     let mut buffer = [0u8; BUFFER];
-    let mut node = start(5);
+    let mut node = started();
     let mut unchanged = false;
     let mut stamp: u32 = 0xFFFFFFF0;
     let mut k = 0;
@@ -152,10 +166,7 @@ fn read_back(message: &[u8]) {
         let data = told.data;
         say_byte(b" ", data[1]);
         let frame = front(&data, told.length as usize);
-        let received = receive(node, &mut buffer, told.identifier, frame, stamp);
-        let outcome = received.outcome;
-        let next = received.node;
-        node = next;
+        let outcome = receive(&mut node, &mut buffer, told.identifier, frame, stamp);
         unchanged = check::same(shown(frame, &buffer, outcome), message);
         stamp = std::num::wrapping_add_u32(stamp, 150);
         k += 1;

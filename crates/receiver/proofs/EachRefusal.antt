@@ -9,16 +9,14 @@ use Rattle.identifiers.specs.Refusals.{numberOf}
 use Rattle.identifiers.specs.declared.refusal.Refusal.{Refusal}
 use Rattle.readings.specs.Positions.{placeOf}
 use Rattle.readings.specs.declared.position.Position.{Position}
-use Rattle.receiver.specs.declared.node.Node.{Node}
 use Rattle.receiver.specs.declared.frame.Judged.{Judged}
 use Rattle.receiver.specs.declared.frame.Judged.the-variants as judged
-use Rattle.receiver.specs.declared.receiving.Received.{Received}
 use Rattle.receiver.specs.declared.outcome.Outcome.{Outcome}
 use Rattle.receiver.specs.declared.outcome.Outcome.the-variants.{Refused, OverLong, Opened, Single}
-use Rattle.receiver.specs.Nodes.{receptionAt}
+use Rattle.receiver.specs.Nodes.{Node, receptionAt}
 use Rattle.receiver.specs.Frames.{judgedOf}
 use Rattle.receiver.specs.Steps.{leaving, closing, opened, stepOf, judgedPlace}
-use Rattle.receiver.specs.Receiving.{receivedOf}
+use Rattle.receiver.specs.Receiving.{Received, receivedOf}
 use Rattle.receiver.specs.Names.{Refuses, by-itself, by-reception}
 use Rattle.receiver.proofs.LawsFrames.{fair, refused-number}
 use Rattle.receiver.proofs.LawsKinds.{consecutive-is}

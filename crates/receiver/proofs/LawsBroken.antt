@@ -18,13 +18,12 @@ use Rattle.readings.specs.declared.position.Vehicle.{Vehicle}
 use Rattle.readings.specs.declared.position.Vehicle.the-variants.{At, NoVehicle}
 use Rattle.readings.proofs.LawsPositions.{trailer-none}
 use Rattle.receiver.specs.declared.reception.Reception.{Reception}
-use Rattle.receiver.specs.declared.node.Node.{Node}
 use Rattle.receiver.specs.declared.outcome.Outcome.{Outcome}
 use Rattle.receiver.specs.declared.outcome.Outcome.the-variants.{Refused}
 use Rattle.receiver.specs.Receptions.{soundReception}
 use Rattle.receiver.specs.Steps.{leaving, stepOf}
 use Rattle.receiver.specs.Receiving.{stepBy, ownOf, judgedAt, judgedBy, movedBy, movedOf, storedIn, receivedOf}
-use Rattle.receiver.specs.Nodes.{receptionAt, soundNode}
+use Rattle.receiver.specs.Nodes.{Node, receptionAt, soundNode}
 use Rattle.receiver.specs.Names.{BrokenReception, closed-with-frames, closed-with-stamp, under-seven, none-left, Broken, not-a-trailer, past-the-last, broken-reception, other-room}
 use Rattle.receiver.proofs.EachRefusal.{step-refuses, refuses-number}
 

@@ -11,14 +11,14 @@ use Rattle.identifiers.specs.Refusals.{refusal}
 use Rattle.identifiers.specs.declared.refusal.Refusal.{Refusal}
 use Rattle.identifiers.specs.declared.answer.Answer.the-variants.{Done}
 use Rattle.identifiers.proofs.LawsChoice.{pick-true, pick-false}
-use Rattle.readings.specs.Positions.{placeOf, takenAfter}
+use Rattle.readings.specs.Positions.{placeOf, trailerAt, takenAfter}
 use Rattle.readings.specs.declared.position.Position.{Position}
+use Rattle.readings.specs.declared.position.Vehicle.the-variants.{At, NoVehicle}
 use Rattle.readings.specs.declared.position.AddressTaken.the-variants.{Own, Refused}
 use Rattle.readings.proofs.LawsPositions.{trailer-back, trailer-no, after-15}
 use Rattle.receiver.specs.declared.reception.Reception.{Reception}
-use Rattle.receiver.specs.declared.node.Node.{Node}
 use Rattle.receiver.specs.Receptions.{closed}
-use Rattle.receiver.specs.Nodes.{receptionAt, withReception, soundNode, freshNode, startOf, freshOf, madeAt, done, unchanged, takenTo, takenBy}
+use Rattle.receiver.specs.Nodes.{Node, receptionAt, withReception, soundNode, freshNode, startOf, freshOf, madeAt, done, unchanged, takenTo, takenBy}
 
 -- ---- one reception stored
 module _ (n : Node) (p : ℕ) where
@@ -67,15 +67,23 @@ module _ (own unit : ℕ) where
   unfolding receptionAt freshNode
   fresh-closed p h = getD-replicate 6 p closed closed h
 
+  -- the maker gives one where the position is a trailer's
+  pub made-at : {p : Position} → trailerAt own ≡ At p → freshOf own unit ≡ done (freshNode own unit)
+  unfolding freshOf madeAt
+  made-at e = ap (madeAt (freshNode own unit)) e
+
+  pub made-none : trailerAt own ≡ NoVehicle → freshOf own unit ≡ unchanged (freshNode own unit) (refusal 1)
+  unfolding freshOf madeAt
+  made-none e = ap (madeAt (freshNode own unit)) e
+
 -- the makers give one: at any position 1 to 5, and at position 1
 pub made-fresh : (own : Position) (unit : ℕ) → 1 ≤ placeOf own → freshOf (placeOf own) unit ≡ record { node = freshNode (placeOf own) unit; answer = Done }
-unfolding freshOf madeAt done
-made-fresh own unit h = ap (madeAt (freshNode (placeOf own) unit)) (trailer-back own h)
+unfolding done
+made-fresh own unit h = made-at (placeOf own) unit (trailer-back own h)
 
 -- 1 "own position not 1..5": of every other
 pub fresh-1 : (own unit : ℕ) → (own < 1) ⊎ (5 < own) → freshOf own unit ≡ unchanged (freshNode own unit) (refusal 1)
-unfolding freshOf madeAt
-fresh-1 own unit h = ap (madeAt (freshNode own unit)) (trailer-no own h)
+fresh-1 own unit h = made-none own unit (trailer-no own h)
 
 pub start-fresh : (unit : ℕ) → startOf unit ≡ freshNode 1 unit
 unfolding startOf

@@ -14,11 +14,10 @@ use Rattle.readings.specs.Positions.{placeOf}
 use Rattle.readings.specs.declared.position.Position.{Position}
 use Rattle.readings.proofs.LawsPositions.{places-differ}
 use Rattle.receiver.specs.declared.reception.Reception.{Reception}
-use Rattle.receiver.specs.declared.node.Node.{Node}
 use Rattle.receiver.specs.declared.outcome.Outcome.{Outcome}
 use Rattle.receiver.specs.Receptions.{regionAt}
 use Rattle.receiver.specs.Steps.{Step, writtenBy}
-use Rattle.receiver.specs.Nodes.{receptionAt, withReception}
+use Rattle.receiver.specs.Nodes.{Node, receptionAt, withReception}
 use Rattle.receiver.proofs.LawsNodes.{put-back, reception-other}
 use Rattle.receiver.proofs.LawsSteps.{Fitted}
 use Rattle.receiver.proofs.LawsGiven.{Gives}

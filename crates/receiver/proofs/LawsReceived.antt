@@ -1,45 +1,27 @@
--- A frame received by a node: when it is ready for one, what it then answers, and that storing the one moved reception gives the node.
-use mathlib.Core.Path.{_≡_, refl, sym, ap, _∙_}
-use mathlib.Core.Bool.{Bool, true, false, _&&_}
+-- A frame received by a node: when it is ready for one, and what it then answers; where it is not, 1, and all stays.
+use mathlib.Core.Path.{_≡_, sym, ap, _∙_}
+use mathlib.Core.Bool.{true}
 use mathlib.Core.List.{List}
-use Prim.Native.Nat.{ℕ, _<_}
+use Prim.Native.Nat.{ℕ}
 use borrow.Author.Tests.{eqb-true, eq-eqb}
-use lib.Dec.{eqb}
-use lib.ListN.{length, set}
-use Rattle.identifiers.specs.Choice.{both}
+use lib.ListN.{length}
 use Rattle.identifiers.specs.Refusals.{refusal}
-use Rattle.identifiers.proofs.LawsChoice.{pick-true, pick-false, was-taken, so, and-is, both-true}
+use Rattle.identifiers.proofs.LawsChoice.{pick-true, was-taken, so, both-true}
 use Rattle.readings.specs.Positions.{trailerAt}
 use Rattle.readings.proofs.LawsPositions.{not-none}
 use Rattle.readings.specs.declared.position.Position.{Position}
 use Rattle.readings.specs.declared.position.Vehicle.the-variants.{At, NoVehicle}
-use Rattle.receiver.specs.declared.node.Node.{Node}
 use Rattle.receiver.specs.declared.frame.Judged.{Judged}
 use Rattle.receiver.specs.declared.frame.Judged.the-variants as judged
-use Rattle.receiver.specs.declared.steps.Moved.{Moved}
 use Rattle.receiver.specs.declared.outcome.Outcome.the-variants.{Refused}
 use Rattle.receiver.specs.Frames.{judgedOf}
 use Rattle.receiver.specs.Steps.{Step, stepOf, writtenBy, leaving, judgedPlace}
-use Rattle.receiver.specs.Receiving.{stepBy, ownOf, judgedAt, judgedBy, movedBy, movedOf, storedIn, receivedOf, unmovedAs, bufferAfter}
-use Rattle.receiver.specs.Nodes.{receptionAt, withReception, soundNode, soundInFront, soundBehind}
-use Rattle.receiver.proofs.LawsRules.{halves}
-use Rattle.receiver.proofs.LawsSteps.{place-judged, leaving-writes}
+use Rattle.receiver.specs.Receiving.{stepBy, ownOf, judgedAt, judgedBy, movedBy, movedOf, storedIn, receivedOf, bufferAfter}
+use Rattle.receiver.specs.Nodes.{Node, receptionAt, withReception, soundNode}
+use Rattle.receiver.proofs.LawsNodes.{put-back}
+use Rattle.receiver.proofs.LawsSteps.{leaving-writes}
 
 -- ---- the step of a node that keeps its rules, held with a buffer of 1,536 bytes
--- how it is tested: the two halves of the node's rules, and the buffer's length
-module _ (n : Node) (room : ℕ) {front behind : Bool} (e : front ≡ soundInFront n) (f : behind ≡ soundBehind n) where
-  tested : (front && behind) && eqb room 1536 ≡ both (soundNode n) (eqb room 1536)
-  tested =
-      rw (e, f) (and-is (soundInFront n && soundBehind n) (eqb room 1536) ∙ ap (λ (b : Bool). both b (eqb room 1536)) (and-is (soundInFront n) (soundBehind n) ∙ sym (halves n)))
-
-  pub not-ready : (front && behind) && eqb room 1536 ≡ false → ownOf n room ≡ NoVehicle
-  unfolding ownOf
-  not-ready t = pick-false _ _ (sym tested ∙ t)
-
-  pub ready-own : (front && behind) && eqb room 1536 ≡ true → ownOf n room ≡ trailerAt (n .own)
-  unfolding ownOf
-  ready-own t = pick-true _ _ (sym tested ∙ t)
-
 pub record Ready (n : Node) (room : ℕ) (own : Position) : Type 0 where
   pub sound : soundNode n ≡ true
   pub fits : room ≡ 1536
@@ -52,7 +34,7 @@ ready n room own e =
     let rules = both-true _ _ (found .0) in
     record { sound = rules .0; fits = eqb-true _ _ (rules .1); at = found .1 }
 
-own-is : (n : Node) (room : ℕ) → soundNode n ≡ true → room ≡ 1536 → ownOf n room ≡ trailerAt (n .own)
+pub own-is : (n : Node) (room : ℕ) → soundNode n ≡ true → room ≡ 1536 → ownOf n room ≡ trailerAt (n .own)
 unfolding ownOf
 own-is n room s l = pick-true _ _ (sym (so s (sym (eq-eqb _ _ l))))
 
@@ -77,23 +59,18 @@ module _ (n : Node) (buffer : List ℕ) (own : Position) (unit : ℕ) (s : sound
   unfolding bufferAfter stepBy
   buffer-is = ap (λ (j : Judged). writtenBy buffer (stepBy n j bytes stamp) bytes) judged-is
 
--- ---- refusal 1 leaves the node and the buffer as found
-module _ (n : Node) (bytes : List ℕ) (stamp : ℕ) where
-  pub unmoved-is : movedBy n (judged.Refused (refusal 1)) bytes stamp ≡ unmovedAs n
-  unfolding movedBy stepBy stepOf leaving
-  unmoved-is = refl
+-- ---- where there is no own position, 1: node and buffer stay as found
+module _ (n : Node) (buffer : List ℕ) (identifier : ℕ) (bytes : List ℕ) (stamp : ℕ) (none : ownOf n (length buffer) ≡ NoVehicle) where
+  judged-1 : judgedBy n buffer identifier bytes ≡ judged.Refused (refusal 1)
+  unfolding judgedBy judgedAt
+  judged-1 = ap (judgedAt n identifier bytes) none
 
-  pub unmoved-buffer : (buffer : List ℕ) → writtenBy buffer (stepBy n (judged.Refused (refusal 1)) bytes stamp) bytes ≡ buffer
-  unfolding stepBy stepOf
-  unmoved-buffer buffer = leaving-writes buffer _ _ bytes
+  pub received-1 : receivedOf n buffer identifier bytes stamp ≡ record { node = n; outcome = Refused (refusal 1) }
+  unfolding receivedOf storedIn movedOf movedBy stepBy stepOf leaving
+  received-1 =
+      ap (λ (j : Judged). storedIn n (movedBy n j bytes stamp)) judged-1
+      ∙ ap (λ (m : Node). record { node = m; outcome = Refused (refusal 1) }) (put-back n 0)
 
--- ---- the node with the one reception stored that a frame moves is the node that is received
-module _ (n : Node) (identifier : ℕ) (bytes : List ℕ) (stamp : ℕ) (buffer : List ℕ) {m : Moved} (is : m ≡ movedOf n buffer identifier bytes stamp) where
-  -- field by field
-  pub stored-fields : record { node = record { own = n .own; unit = n .unit; receptions = set (n .receptions) (m .place) (m .reception) }; outcome = m .outcome } ≡ receivedOf n buffer identifier bytes stamp
-  unfolding receivedOf storedIn withReception
-  stored-fields = rw is
-
-  pub place-moved : m .place < 6
-  unfolding movedOf movedBy
-  place-moved = rw is (place-judged (judgedBy n buffer identifier bytes))
+  pub buffer-1 : bufferAfter n buffer identifier bytes stamp ≡ buffer
+  unfolding bufferAfter stepBy stepOf
+  buffer-1 = ap (λ (j : Judged). writtenBy buffer (stepBy n j bytes stamp) bytes) judged-1 ∙ leaving-writes buffer _ _ bytes

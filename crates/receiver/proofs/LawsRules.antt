@@ -1,40 +1,19 @@
--- The rules of a reception and of a node: the node's by their two halves, what they say of a reception, and what keeps them.
+-- The rules of a reception and of a node: what they say of a reception, and what keeps them.
 use mathlib.Core.Path.{_≡_, refl, sym, ap, _∙_}
-use mathlib.Core.Bool.{Bool, true}
+use mathlib.Core.Bool.{true}
 use mathlib.Core.List.{List, [], _∷_}
 use mathlib.Core.Logic.{_≢_}
 use Prim.Native.Nat.{ℕ, zero, suc, _+_, _*_, _≤_, _<_}
 use native.Mathlib.Omega.{arith}
 use borrow.Author.Tests.{ltb-true, leb-true, lt-ltb, ne-eqb, le-leb}
-use lib.Dec.{leb}
 use lib.ListN.{getD, set}
 use Rattle.identifiers.specs.Choice.{pick, both}
-use Rattle.identifiers.specs.Below.{allBelow}
-use Rattle.identifiers.proofs.LawsChoice.{pick-false, so, both-true, both-assoc}
-use Rattle.identifiers.proofs.LawsBelow.{all-none, all-more, all-last, all-at, all-each, all-split}
+use Rattle.identifiers.proofs.LawsChoice.{pick-false, so, both-true}
+use Rattle.identifiers.proofs.LawsBelow.{all-at, all-each}
 use Rattle.receiver.specs.declared.reception.Reception.{Reception}
-use Rattle.receiver.specs.declared.node.Node.{Node}
 use Rattle.receiver.specs.Receptions.{closed, openWith, soundReception}
-use Rattle.receiver.specs.Nodes.{receptionAt, withReception, soundNode, soundInFront, soundBehind, freshNode}
+use Rattle.receiver.specs.Nodes.{Node, receptionAt, withReception, soundNode, freshNode}
 use Rattle.receiver.proofs.LawsNodes.{fresh-closed}
-
--- ---- by their two halves
--- three tests in a row, of which two hold: the third decides
-pub third-decides : (p : ℕ → Bool) → p 0 ≡ true → p 1 ≡ true → p 2 ≡ allBelow p 3
-third-decides p a b = sym (all-last p 2 (all-more p 1 (all-more p 0 (all-none p) a) b))
-
-module _ (n : Node) where
-  abbrev test : ℕ → Bool
-  test p = soundReception (receptionAt n p)
-
-  pub halves : soundNode n ≡ both (soundInFront n) (soundBehind n)
-  unfolding soundNode soundInFront soundBehind
-  halves =
-      let low : Bool = leb 1 (n .own) in
-      let high : Bool = leb (n .own) 5 in
-      ap (λ (b : Bool). both low (both high b)) (all-split test 3 3)
-      ∙ sym (ap (both low) (both-assoc high (allBelow test 3) (allBelow (λ p. test (3 + p)) 3)))
-      ∙ sym (both-assoc low (both high (allBelow test 3)) (allBelow (λ p. test (3 + p)) 3))
 
 -- ---- of one reception, and of each of a node's
 pub sound-closed : soundReception closed ≡ true
@@ -54,7 +33,7 @@ unfolding soundNode
 sound-at n p h l = all-at (λ (i : ℕ). soundReception (receptionAt n i)) p 6 (both-true _ _ (both-true _ _ h .1) .1) l
 
 -- after a store an element is the one stored or the one that was there
-set-cases : (P : Reception → Type 0) (l : List Reception) (p j : ℕ) (r d : Reception) → P r → P (getD l j d) → P (getD (set l p r) j d)
+pub set-cases : (P : Reception → Type 0) (l : List Reception) (p j : ℕ) (r d : Reception) → P r → P (getD l j d) → P (getD (set l p r) j d)
 set-cases P [] p j r d x y = y
 set-cases P (a ∷ l) zero zero r d x y = x
 set-cases P (a ∷ l) zero (suc j) r d x y = y

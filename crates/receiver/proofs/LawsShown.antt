@@ -16,17 +16,16 @@ use Rattle.readings.specs.declared.position.Vehicle.{Vehicle}
 use Rattle.readings.specs.declared.position.Vehicle.the-variants.{At, NoVehicle}
 use Rattle.readings.proofs.LawsPositions.{place-below}
 use Rattle.receiver.specs.declared.reception.Reception.{Reception}
-use Rattle.receiver.specs.declared.node.Node.{Node}
 use Rattle.receiver.specs.declared.frame.Judged.{Judged}
 use Rattle.receiver.specs.declared.frame.Judged.the-variants as judged
 use Rattle.receiver.specs.declared.outcome.Outcome.{Outcome}
 use Rattle.receiver.specs.declared.outcome.Outcome.the-variants.{Refused, OverLong, Opened, Taken, Single, Train}
 use Rattle.receiver.specs.Receptions.{closed, bufferLength, regionAt}
 use Rattle.receiver.specs.Frames.{judgedOf}
-use Rattle.receiver.specs.Outcomes.{dueOf, dueNumber, nothingTold, outcomeTold}
+use Rattle.receiver.specs.Outcomes.{dueOf, nothingTold, outcomeTold}
 use Rattle.receiver.specs.Steps.{Step, leaving, closing, opened, leftOf, takenStep, followed, behindSingle, stepOf, writtenBy, judgedPlace}
 use Rattle.receiver.specs.Receiving.{stepBy, ownOf, judgedAt, judgedBy, movedBy, movedOf, storedIn, receivedOf, bufferAfter}
-use Rattle.receiver.specs.Nodes.{receptionAt}
+use Rattle.receiver.specs.Nodes.{Node, receptionAt}
 use Rattle.receiver.specs.Shown.{shownOf, toldMessage}
 use Rattle.receiver.proofs.LawsFrames.{Fair, fair}
 use Rattle.receiver.proofs.LawsSteps.{length-after}
@@ -43,7 +42,7 @@ told-shown bytes buffer (Single from functional L) = refl
 told-shown bytes buffer (Train from L) = refl
 
 -- the control that is told is the one that is due
-pub told-due : (o : Outcome) → outcomeTold o .control ≡ dueNumber (dueOf o)
+pub told-due : (o : Outcome) → outcomeTold o .control ≡ dueOf o
 unfolding outcomeTold nothingTold dueOf
 told-due (Refused why) = refl
 told-due (OverLong from) = refl

@@ -14,7 +14,6 @@ use Rattle.readings.proofs.LawsPositions.{place-below}
 use Rattle.readings.specs.declared.position.Position.{Position}
 use Rattle.readings.specs.declared.position.Position.the-variants.{Zero}
 use Rattle.receiver.specs.declared.reception.Reception.{Reception}
-use Rattle.receiver.specs.declared.node.Node.{Node}
 use Rattle.receiver.specs.declared.frame.Judged.{Judged}
 use Rattle.receiver.specs.declared.frame.Judged.the-variants as judged
 use Rattle.receiver.specs.declared.outcome.Outcome.{Outcome}
@@ -22,7 +21,7 @@ use Rattle.receiver.specs.Receptions.{closed, soundReception, regionAt}
 use Rattle.receiver.specs.Frames.{judgedOf}
 use Rattle.receiver.specs.Steps.{Step, leaving, closing, opened, doneOf, leftOf, takenStep, followed, behindSingle, stepOf, writtenBy, judgedPlace}
 use Rattle.receiver.specs.Receiving.{stepBy, movedBy, storedIn}
-use Rattle.receiver.specs.Nodes.{receptionAt, soundNode}
+use Rattle.receiver.specs.Nodes.{Node, receptionAt, soundNode}
 use Rattle.receiver.proofs.LawsFrames.{Fair, fair}
 use Rattle.receiver.proofs.LawsRules.{sound-closed, sound-open, open-facts, sound-at, sound-with}
 

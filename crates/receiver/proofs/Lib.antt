@@ -1,5 +1,6 @@
 -- The crate's laws, which belong to no one function.
 pub mod LawsNodes
+pub mod LawsRow
 pub mod LawsRules
 pub mod LawsPieces
 pub mod LawsOnWire
@@ -14,7 +15,10 @@ pub mod LawsSteps
 pub mod LawsGiven
 pub mod LawsOthers
 pub mod LawsReceived
+pub mod LawsLent
+pub mod LawsBytesKept
 pub mod EachRefusal
 pub mod LawsBroken
 pub mod LawsShown
 pub mod OneFrame
+pub mod LentFrame

@@ -19,7 +19,6 @@ use Rattle.readings.specs.declared.position.Vehicle.{Vehicle}
 use Rattle.readings.specs.declared.position.Vehicle.the-variants.{At, NoVehicle}
 use Rattle.readings.proofs.LawsPositions.{address-back}
 use Rattle.receiver.specs.declared.reception.Reception.{Reception}
-use Rattle.receiver.specs.declared.node.Node.{Node}
 use Rattle.receiver.specs.declared.frame.Judged.{Judged}
 use Rattle.receiver.specs.declared.frame.Judged.the-variants as judged
 use Rattle.receiver.specs.declared.outcome.Outcome.{Outcome}
@@ -29,7 +28,7 @@ use Rattle.receiver.specs.Frames.{judgedOf}
 use Rattle.receiver.specs.Outcomes.{nothingTold, outcomeTold}
 use Rattle.receiver.specs.Steps.{Step, leaving, closing, opened, takenStep, followed, behindSingle, stepOf, writtenBy, judgedPlace}
 use Rattle.receiver.specs.Receiving.{stepBy, ownOf, judgedAt, judgedBy, movedBy, movedOf, storedIn, receivedOf, bufferAfter}
-use Rattle.receiver.specs.Nodes.{receptionAt, withReception}
+use Rattle.receiver.specs.Nodes.{Node, receptionAt, withReception}
 use Rattle.receiver.specs.Changes.{closes, Does, Changes, Leaves}
 use Rattle.receiver.specs.Wire.{Addressed}
 use Rattle.receiver.proofs.LawsNodes.{put-back}
@@ -119,7 +118,7 @@ module _ (n : Node) (buffer : List ℕ) (identifier : ℕ) (bytes : List ℕ) (s
     step-leaves (Train from L) d e = absurd (some (sym e))
 
   -- refusals 1 to 10 leave all as found
-  as-found : number ≤ 10 → Leaves n buffer identifier number n buffer
+  pub as-found : number ≤ 10 → Leaves n buffer identifier number n buffer
   as-found h = record { buffer-stays = refl; node-stays = λ e. refl; node-closes = λ e. absurd (false≢true (sym (low-keeps number h) ∙ e)) }
 
   source : {own : Position} {unit : ℕ} {p : Position} {functional : Bool} → Addressed own unit identifier bytes p functional → positionOf (identifier % 2 ^ 8) ≡ At p

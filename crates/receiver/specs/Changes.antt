@@ -11,12 +11,11 @@ use Rattle.readings.specs.Positions.{placeOf, positionOf}
 use Rattle.readings.specs.declared.position.Position.{Position}
 use Rattle.readings.specs.declared.position.Vehicle.the-variants.{At}
 use Rattle.receiver.specs.declared.reception.Reception.{Reception}
-use Rattle.receiver.specs.declared.node.Node.{Node}
 use Rattle.receiver.specs.declared.outcome.Outcome.{Outcome}
 use Rattle.receiver.specs.declared.outcome.Outcome.the-variants.{Refused, OverLong, Opened, Taken, Single, Train}
 use Rattle.receiver.specs.Receptions.{closed, openWith, regionAt}
 use Rattle.receiver.specs.Steps.{Step, doneOf, leftOf}
-use Rattle.receiver.specs.Nodes.{withReception}
+use Rattle.receiver.specs.Nodes.{Node, withReception}
 
 -- "11, 13 and 14 close that vehicle's reception"
 unfoldable pub closes : ℕ → Bool

@@ -7,6 +7,7 @@ pub mod Wire
 pub mod Outcomes
 pub mod Steps
 pub mod Receiving
+pub mod Lent
 pub mod Names
 pub mod Shown
 pub mod Cuts

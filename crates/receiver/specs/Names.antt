@@ -12,8 +12,7 @@ use Rattle.identifiers.specs.declared.refusal.Refusal.{Refusal}
 use Rattle.readings.specs.Positions.{placeOf, addressOf, global}
 use Rattle.readings.specs.declared.position.Position.{Position}
 use Rattle.receiver.specs.declared.reception.Reception.{Reception}
-use Rattle.receiver.specs.declared.node.Node.{Node}
-use Rattle.receiver.specs.Nodes.{receptionAt}
+use Rattle.receiver.specs.Nodes.{Node, receptionAt}
 use Rattle.receiver.specs.Receptions.{bufferLength}
 use Rattle.receiver.specs.Steps.{gapOf}
 use Rattle.receiver.specs.Wire.{Addressed, IsConsecutive}
@@ -114,3 +113,14 @@ pub data Broken (n : Node) (buffer : List ℕ) : Type 0 where
   past-the-last : 5 < n .own → Broken n buffer
   broken-reception : {p : ℕ} → p < 6 → BrokenReception (receptionAt n p) → Broken n buffer
   other-room : length buffer ≢ bufferLength → Broken n buffer
+
+-- a number over 255 where a byte is meant
+pub data NoByte (n : Node) : Type 0 where
+  unit-over : 255 < n .unit → NoByte n
+  length-over : {p : ℕ} → p < 6 → 255 < receptionAt n p .length → NoByte n
+  taken-over : {p : ℕ} → p < 6 → 255 < receptionAt n p .taken → NoByte n
+
+-- 1 of a lent node: it is broken so, or as every node
+pub data BrokenLent (n : Node) (buffer : List ℕ) : Type 0 where
+  no-byte : NoByte n → BrokenLent n buffer
+  as-every-node : Broken n buffer → BrokenLent n buffer

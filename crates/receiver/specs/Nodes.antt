@@ -1,12 +1,14 @@
 -- The node's state and its rules, how it starts, and how it takes an address (document 01, "Identifier, vehicle, route", "Frames and trains").
 use mathlib.Core.Bool.{Bool}
-use Prim.Native.Nat.{ℕ, _+_}
+use mathlib.Core.List.{List}
+use Prim.Native.Nat.{ℕ}
 use lib.Dec.{leb, eqb}
 use lib.ListN.{getD, set, replicate}
 use Rattle.identifiers.specs.Choice.{pick, both}
 use Rattle.identifiers.specs.Below.{allBelow}
 use Rattle.identifiers.specs.Refusals.{refusal}
 use Rattle.identifiers.specs.declared.refusal.Refusal.{Refusal}
+use Rattle.identifiers.specs.declared.answer.Answer.{Answer}
 use Rattle.identifiers.specs.declared.answer.Answer.the-variants.{Done, Refused}
 use Rattle.readings.specs.Positions.{placeOf, trailerAt, takenAfter}
 use Rattle.readings.specs.declared.position.Vehicle.{Vehicle}
@@ -14,9 +16,17 @@ use Rattle.readings.specs.declared.position.Vehicle.the-variants.{At, NoVehicle
 use Rattle.readings.specs.declared.position.AddressTaken.{AddressTaken}
 use Rattle.readings.specs.declared.position.AddressTaken.the-variants as address
 use Rattle.receiver.specs.declared.reception.Reception.{Reception}
-use Rattle.receiver.specs.declared.node.Node.{Node}
-use Rattle.receiver.specs.declared.node.Changed.{Changed}
 use Rattle.receiver.specs.Receptions.{closed, soundReception}
+
+pub record Node : Type 0 where
+  pub own : ℕ
+  pub unit : ℕ
+  pub receptions : List Reception
+
+-- a node, and whether it was made or changed as asked
+pub record Changed : Type 0 where
+  pub node : Node
+  pub answer : Answer
 
 -- "There is one reception per vehicle, positions 0..5"
 unfoldable pub receptionAt : Node → ℕ → Reception
@@ -28,13 +38,6 @@ withReception n p r = record { own = n .own; unit = n .unit; receptions = set (n
 -- 1 "lent state breaks its rules, own position not 1..5"
 unfoldable pub soundNode : Node → Bool
 soundNode n = both (leb 1 (n .own)) (both (leb (n .own) 5) (allBelow (λ p. soundReception (receptionAt n p)) 6))
-
--- the same in two halves: the own position and positions 0 to 2, then positions 3 to 5
-unfoldable pub soundInFront : Node → Bool
-soundInFront n = both (leb 1 (n .own)) (both (leb (n .own) 5) (allBelow (λ p. soundReception (receptionAt n p)) 3))
-
-unfoldable pub soundBehind : Node → Bool
-soundBehind n = allBelow (λ p. soundReception (receptionAt n (3 + p))) 3
 
 -- "A node is fresh, at any position 1 to 5 and with any unit, when all receptions are closed"
 unfoldable pub freshNode : ℕ → ℕ → Node

@@ -6,25 +6,16 @@ use Rattle.readings.specs.Positions.{placeOf}
 use Rattle.receiver.specs.declared.outcome.Outcome.{Outcome}
 use Rattle.receiver.specs.declared.outcome.Outcome.the-variants.{Refused, OverLong, Opened, Taken, Single, Train}
 use Rattle.receiver.specs.declared.outcome.OutcomeTold.{OutcomeTold}
-use Rattle.receiver.specs.declared.outcome.Control.the-variants.{Continue, Overflow}
-use Rattle.receiver.specs.declared.outcome.Due.{Due}
-use Rattle.receiver.specs.declared.outcome.Due.the-variants.{Nothing, Send}
 use Rattle.receiver.specs.Receptions.{regionAt}
 
--- "A first frame accepted says continue control is due"; 11 "overflow control .. is due"
-unfoldable pub dueOf : Outcome → Due
-dueOf (Refused why) = Nothing
-dueOf (OverLong from) = Send Overflow from
-dueOf (Opened from) = Send Continue from
-dueOf (Taken from) = Nothing
-dueOf (Single from functional L) = Nothing
-dueOf (Train from L) = Nothing
-
--- the control that is due by its number: 0 none, 1 continue, 2 overflow
-abbrev pub dueNumber : Due → ℕ
-dueNumber Nothing = 0
-dueNumber (Send Continue to) = 1
-dueNumber (Send Overflow to) = 2
+-- "A first frame accepted says continue control is due"; 11 "overflow control .. is due": by its number, 0 none, 1 continue, 2 overflow
+unfoldable pub dueOf : Outcome → ℕ
+dueOf (Refused why) = 0
+dueOf (OverLong from) = 2
+dueOf (Opened from) = 1
+dueOf (Taken from) = 0
+dueOf (Single from functional L) = 0
+dueOf (Train from L) = 0
 
 -- the outcome in document 01's numbers
 unfoldable pub nothingTold : ℕ → ℕ → ℕ → OutcomeTold

@@ -8,16 +8,25 @@ use Rattle.identifiers.specs.Refusals.{refusal}
 use Rattle.readings.specs.Positions.{trailerAt}
 use Rattle.readings.specs.declared.position.Vehicle.{Vehicle}
 use Rattle.readings.specs.declared.position.Vehicle.the-variants.{At, NoVehicle}
-use Rattle.receiver.specs.declared.node.Node.{Node}
+use Rattle.receiver.specs.declared.reception.Reception.{Reception}
 use Rattle.receiver.specs.declared.frame.Judged.{Judged}
 use Rattle.receiver.specs.declared.frame.Judged.the-variants.{Refused}
-use Rattle.receiver.specs.declared.outcome.Outcome.the-variants as outcome
-use Rattle.receiver.specs.declared.receiving.Received.{Received}
-use Rattle.receiver.specs.declared.steps.Moved.{Moved}
+use Rattle.receiver.specs.declared.outcome.Outcome.{Outcome}
 use Rattle.receiver.specs.Receptions.{bufferLength}
-use Rattle.receiver.specs.Nodes.{receptionAt, withReception, soundNode}
+use Rattle.receiver.specs.Nodes.{Node, receptionAt, withReception, soundNode}
 use Rattle.receiver.specs.Frames.{judgedOf}
-use Rattle.receiver.specs.Steps.{Step, judgedPlace, moved, stepOf, writtenBy}
+use Rattle.receiver.specs.Steps.{Step, judgedPlace, stepOf, writtenBy}
+
+-- the reception that a frame moves: its place, the reception afterwards, and the frame's outcome
+pub record Moved : Type 0 where
+  pub place : ℕ
+  pub reception : Reception
+  pub outcome : Outcome
+
+-- the node after a frame, and the frame's outcome
+pub record Received : Type 0 where
+  pub node : Node
+  pub outcome : Outcome
 
 -- 1 "lent state breaks its rules, own position not 1..5, .. or reception buffer not 1,536": otherwise the own position
 unfoldable pub ownOf : Node → ℕ → Vehicle
@@ -35,13 +44,9 @@ judgedBy n buffer identifier bytes = judgedAt n identifier bytes (ownOf n (lengt
 unfoldable pub stepBy : Node → Judged → List ℕ → ℕ → Step
 stepBy n j bytes stamp = stepOf (receptionAt n (judgedPlace j)) j (length bytes) stamp
 
--- the one reception that it moves, its place, and the outcome
+-- the one reception that it moves
 unfoldable pub movedBy : Node → Judged → List ℕ → ℕ → Moved
-movedBy n j bytes stamp = moved (judgedPlace j) (stepBy n j bytes stamp)
-
--- 1 moves none: the first stands as it is
-abbrev pub unmovedAs : Node → Moved
-unmovedAs n = record { place = 0; reception = receptionAt n 0; outcome = outcome.Refused (refusal 1) }
+movedBy n j bytes stamp = record { place = judgedPlace j; reception = stepBy n j bytes stamp .reception; outcome = stepBy n j bytes stamp .outcome }
 
 unfoldable pub movedOf : Node → List ℕ → ℕ → List ℕ → ℕ → Moved
 movedOf n buffer identifier bytes stamp = movedBy n (judgedBy n buffer identifier bytes) bytes stamp

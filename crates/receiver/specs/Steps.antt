@@ -14,8 +14,9 @@ use Rattle.receiver.specs.declared.frame.Judged.{Judged}
 use Rattle.receiver.specs.declared.frame.Judged.the-variants as judged
 use Rattle.receiver.specs.declared.outcome.Outcome.{Outcome}
 use Rattle.receiver.specs.declared.outcome.Outcome.the-variants.{Refused, OverLong, Opened, Taken, Single, Train}
-use Rattle.receiver.specs.declared.steps.Moved.{Moved}
+use Rattle.receiver.specs.declared.steps.StepTold.{StepTold}
 use Rattle.receiver.specs.Receptions.{closed, openWith, regionAt}
+use Rattle.receiver.specs.Outcomes.{outcomeTold}
 
 -- what a frame does: its vehicle's reception afterwards, `count` bytes of its data, from `start` on, written at `at`, and its outcome
 pub record Step : Type 0 where
@@ -25,9 +26,9 @@ pub record Step : Type 0 where
   pub count : ℕ
   pub outcome : Outcome
 
--- the reception so moved at a place
-abbrev pub moved : ℕ → Step → Moved
-moved place s = record { place = place; reception = s .reception; outcome = s .outcome }
+-- the reception afterwards, and the outcome in numbers
+unfoldable pub stepTold : Step → StepTold
+stepTold s = record { reception = s .reception; outcome = outcomeTold (s .outcome) }
 
 -- the place of the vehicle whose reception a frame is about; 0 where it is refused by itself
 abbrev pub judgedPlace : Judged → ℕ

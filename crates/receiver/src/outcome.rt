@@ -1,6 +1,6 @@
-// What is answered to a frame: its outcome, the flow control that is due, and the same in numbers.
+// What is answered to a frame: its outcome, and the same in numbers.
 ghost use mathlib.Core.Path.{_≡_};
-ghost use Rattle.receiver.specs.Outcomes.{dueOf, nothingTold, outcomeTold};
+ghost use Rattle.receiver.specs.Outcomes.{nothingTold, outcomeTold};
 use crate::reception::region;
 use identifiers::Refusal;
 use readings::Position;
@@ -32,12 +32,6 @@ pub enum Control {
     Overflow,
 }
 
-// The flow control that is due, and to whom.
-pub enum Due {
-    Nothing,
-    Send { control: Control, to: Position },
-}
-
 // The outcome in numbers: the refusal, 0 for none; what is handed out, 0 nothing, 1 a single frame, 2 a train; from whom, functional or not, where the message
 // starts in the frame's data or in the buffer, its length; and the control that is due to that vehicle, 0 none, 1 continue, 2 overflow.
 #[repr(C)]
@@ -66,22 +60,6 @@ fn nothing_told(refusal: u8, from: u8, control: u8) -> OutcomeTold
 }
 
 impl Outcome {
-    pub fn due(self) -> Due
-        ensures { λ r. ⌜ r ≡ dueOf self ⌝ }
-    {
-        match self {
-            Outcome::OverLong { from } => Due::Send {
-                control: Control::Overflow,
-                to: from,
-            },
-            Outcome::Opened { from } => Due::Send {
-                control: Control::Continue,
-                to: from,
-            },
-            _ => Due::Nothing,
-        }
-    }
-
     pub fn told(self) -> OutcomeTold
         ensures { λ r. ⌜ r ≡ outcomeTold self ⌝ }
     {

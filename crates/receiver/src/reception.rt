@@ -2,16 +2,17 @@
 ghost use mathlib.Core.Path.{_≡_};
 ghost use Prim.Native.Nat.{_≤_, _<_};
 ghost use Rattle.readings.specs.Positions.{placeOf};
-ghost use Rattle.receiver.specs.Receptions.{closed, soundReception, regionAt};
+ghost use Rattle.identifiers.specs.Choice.{both};
+ghost use Rattle.receiver.specs.Receptions.{soundReception, regionAt};
+ghost use Rattle.receiver.specs.Lent.{inBytes};
 use readings::Position;
 
 // The bytes of a reception buffer: 256 for each position.
 pub const BUFFER: usize = 1536;
 
-#[repr(C)]
 pub struct Reception {
-    pub length: u8,
-    pub taken: u8,
+    pub length: u32,
+    pub taken: u32,
     pub last: u32,
 }
 
@@ -22,22 +23,16 @@ impl Reception {
         last: 0,
     };
 
-    pub fn closed() -> Reception
-        ensures { λ r. ⌜ r ≡ closed ⌝ }
-    {
-        Reception::CLOSED
-    }
-
-    // Closed in its one form, or open with 7 bytes or more of which some are left.
+    // Closed in its one form, or open with 7 to 255 bytes of which some are left.
     pub fn is_sound(self) -> bool
-        ensures { λ r. ⌜ r ≡ soundReception self ⌝ }
+        ensures { λ r. ⌜ r ≡ both (inBytes self) (soundReception self) ⌝ }
     {
         let length = self.length as usize;
         let taken = self.taken as usize;
         if length == 0 {
             return (taken == 0) & (self.last == 0);
         }
-        (7 <= length) & (5 + 6 * taken < length)
+        (7 <= length) & (length <= 255) & (5 + 6 * taken < length)
     }
 }
 

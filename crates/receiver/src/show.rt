@@ -1,9 +1,8 @@
 // The shown message: a part of the frame's own data, or of the reception buffer, never a copy.
 ghost use mathlib.Core.Path.{_≡_};
 ghost use lib.ListN.{take, drop};
-ghost use Rattle.receiver.specs.Shown.{shownOf};
-use crate::outcome::Outcome;
-use crate::reception::region;
+ghost use Rattle.receiver.specs.Shown.{toldMessage};
+use crate::outcome::OutcomeTold;
 
 // The `count` bytes from `at` on, or as many of them as there are.
 fn part<'a>(s: &'a [u8], at: usize, count: usize) -> &'a [u8]
@@ -19,16 +18,11 @@ fn part<'a>(s: &'a [u8], at: usize, count: usize) -> &'a [u8]
     &s[at..end]
 }
 
-pub fn shown<'a>(data: &'a [u8], buffer: &'a [u8], outcome: Outcome) -> &'a [u8]
-    ensures { λ r. ⌜ now r ≡ shownOf (now («data» .entry)) (now (buffer .entry)) outcome ⌝ }
+pub fn shown<'a>(data: &'a [u8], buffer: &'a [u8], outcome: OutcomeTold) -> &'a [u8]
+    ensures { λ r. ⌜ now r ≡ toldMessage outcome (now («data» .entry)) (now (buffer .entry)) ⌝ }
 {
-    match outcome {
-        Outcome::Single {
-            from: _,
-            functional: _,
-            length,
-        } => part(data, 2, length as usize),
-        Outcome::Train { from, length } => part(buffer, region(from), length as usize),
-        _ => part(data, 0, 0),
+    if outcome.handed_out == 1 {
+        return part(data, outcome.start as usize, outcome.length as usize);
     }
+    part(buffer, outcome.start as usize, outcome.length as usize)
 }

@@ -3,27 +3,27 @@ ghost use mathlib.Core.Path.{_≡_};
 ghost use mathlib.Core.Bool.{true};
 ghost use Prim.Native.Nat.{ℕ, _+_, _≤_, min};
 ghost use lib.ListN.{length};
-ghost use Rattle.readings.specs.Positions.{placeOf};
 ghost use Rattle.readings.specs.declared.position.Position.{Position};
 ghost use Rattle.receiver.specs.declared.frame.Judged.the-variants.{First};
-ghost use Rattle.receiver.specs.declared.outcome.Outcome.the-variants.{Refused};
+ghost use Rattle.receiver.specs.declared.outcome.Outcome.{Outcome};
 ghost use Rattle.receiver.specs.Receptions.{soundReception, bufferLength};
-ghost use Rattle.receiver.specs.Steps.{judgedPlace, moved, gapOf, leaving, closing, opened, doneOf, leftOf, takenStep, followed, behindSingle, stepOf, writtenBy};
+ghost use Rattle.receiver.specs.Lent.{inBytes};
+ghost use Rattle.receiver.specs.Outcomes.{outcomeTold};
+ghost use Rattle.receiver.specs.Steps.{stepTold, gapOf, leaving, closing, opened, doneOf, leftOf, takenStep, followed, behindSingle, stepOf, writtenBy};
 use crate::bytes::store;
 use crate::bytes::store_six;
 use crate::frame::Judged;
 use crate::outcome::Outcome;
+use crate::outcome::OutcomeTold;
 use crate::reception::Reception;
-use crate::reception::place;
 use crate::reception::region;
 use identifiers::Refusal;
 use readings::Position;
 
-// The reception that a frame moves: its place, the reception afterwards, and the frame's outcome.
-pub struct Moved {
-    pub place: usize,
+// What a frame does: its vehicle's reception afterwards, and its outcome in numbers.
+pub struct StepTold {
     pub reception: Reception,
-    pub outcome: Outcome,
+    pub outcome: OutcomeTold,
 }
 
 // Milliseconds from the earlier stamp to the later; stamps run round.
@@ -33,21 +33,16 @@ fn gap(later: u32, earlier: u32) -> u32
     std::num::wrapping_sub_u32(later, earlier)
 }
 
-fn leave(from: Position, reception: Reception, outcome: Outcome) -> Moved
-    ensures { λ r. ⌜ r ≡ moved (placeOf from) (leaving reception outcome) ⌝ }
+fn leave(reception: Reception, outcome: OutcomeTold) -> StepTold
+    ensures { λ r. ⌜ ((o : Outcome) → outcome ≡ outcomeTold o → r ≡ stepTold (leaving reception o)) ⌝ }
 {
-    Moved {
-        place: place(from),
-        reception,
-        outcome,
-    }
+    StepTold { reception, outcome }
 }
 
-fn close(from: Position, outcome: Outcome) -> Moved
-    ensures { λ r. ⌜ r ≡ moved (placeOf from) (closing outcome) ⌝ }
+fn close(outcome: OutcomeTold) -> StepTold
+    ensures { λ r. ⌜ ((o : Outcome) → outcome ≡ outcomeTold o → r ≡ stepTold (closing o)) ⌝ }
 {
-    Moved {
-        place: place(from),
+    StepTold {
         reception: Reception::CLOSED,
         outcome,
     }
@@ -64,20 +59,17 @@ fn behind_single(reception: Reception, functional: bool) -> Reception
 }
 
 // A first frame opens the reception anew.
-fn open_anew(buffer: &mut [u8], data: &[u8], from: Position, total: u8, stamp: u32) -> Moved
+fn open_anew(buffer: &mut [u8], data: &[u8], from: Position, total: u8, stamp: u32) -> StepTold
     requires { ⌜ (length (now buffer) ≡ bufferLength) × (8 ≤ length (now «data»)) ⌝ }
-    ensures { λ r. ⌜ (r ≡ moved (placeOf from) (opened from total stamp)) × (now (buffer .exit) ≡ writtenBy (now (buffer .entry)) (opened from total stamp) (now («data» .entry))) ⌝ }
+    ensures { λ r. ⌜ (r ≡ stepTold (opened from total stamp)) × (now (buffer .exit) ≡ writtenBy (now (buffer .entry)) (opened from total stamp) (now («data» .entry))) ⌝ }
 {
     store(buffer, region(from), data, 3, 5);
-    Moved {
-        place: place(from),
-        reception: Reception {
-            length: total,
-            taken: 0,
-            last: stamp,
-        },
-        outcome: Outcome::Opened { from },
-    }
+    let opened = Reception {
+        length: total as u32,
+        taken: 0,
+        last: stamp,
+    };
+    leave(opened, Outcome::Opened { from }.told())
 }
 
 // A consecutive frame in order and in time is taken, behind what is done; the last one ends the train.
@@ -88,10 +80,10 @@ fn take(
     done: usize,
     from: Position,
     stamp: u32,
-) -> Moved
-    requires { ⌜ (soundReception reception ≡ true) × (7 ≤ reception .length) × (done ≡ doneOf reception) × (length (now buffer) ≡ bufferLength)
+) -> StepTold
+    requires { ⌜ (inBytes reception ≡ true) × (soundReception reception ≡ true) × (7 ≤ reception .length) × (done ≡ doneOf reception) × (length (now buffer) ≡ bufferLength)
         × (2 + min 6 (leftOf reception) ≤ length (now «data»)) ⌝ }
-    ensures { λ r. ⌜ (r ≡ moved (placeOf from) (takenStep reception from stamp))
+    ensures { λ r. ⌜ (r ≡ stepTold (takenStep reception from stamp))
         × (now (buffer .exit) ≡ writtenBy (now (buffer .entry)) (takenStep reception from stamp) (now («data» .entry))) ⌝ }
 {
     let length = reception.length as usize;
@@ -103,16 +95,13 @@ fn take(
             taken: reception.taken + 1,
             last: stamp,
         };
-        return leave(from, next, Outcome::Taken { from });
+        return leave(next, Outcome::Taken { from }.told());
     }
     store(buffer, at, data, 2, length - done);
-    close(
+    close(Outcome::Train {
         from,
-        Outcome::Train {
-            from,
-            length: reception.length,
-        },
-    )
+        length: reception.length as u8,
+    }.told())
 }
 
 fn at_most_six(left: usize) -> usize
@@ -132,25 +121,25 @@ fn follow(
     from: Position,
     number: u8,
     stamp: u32,
-) -> Moved
-    requires { ⌜ (soundReception reception ≡ true) × (length (now buffer) ≡ bufferLength) ⌝ }
-    ensures { λ r. ⌜ (r ≡ moved (placeOf from) (followed reception from number (length (now («data» .entry))) stamp))
+) -> StepTold
+    requires { ⌜ (inBytes reception ≡ true) × (soundReception reception ≡ true) × (length (now buffer) ≡ bufferLength) ⌝ }
+    ensures { λ r. ⌜ (r ≡ stepTold (followed reception from number (length (now («data» .entry))) stamp))
         × (now (buffer .exit) ≡ writtenBy (now (buffer .entry)) (followed reception from number (length (now («data» .entry))) stamp) (now («data» .entry))) ⌝ }
 {
     let length = reception.length as usize;
     let taken = reception.taken as usize;
     let done = 5 + 6 * taken;
     if length == 0 {
-        return leave(from, reception, Outcome::Refused(Refusal::NothingOpen));
+        return leave(reception, Outcome::Refused(Refusal::NothingOpen).told());
     }
     if data.len() < 2 + at_most_six(length - done) {
-        return leave(from, reception, Outcome::Refused(Refusal::Malformed));
+        return leave(reception, Outcome::Refused(Refusal::Malformed).told());
     }
     if number as usize != (taken + 1) % 16 {
-        return close(from, Outcome::Refused(Refusal::WrongNumber));
+        return close(Outcome::Refused(Refusal::WrongNumber).told());
     }
     if 150 < gap(stamp, reception.last) {
-        return close(from, Outcome::Refused(Refusal::Late));
+        return close(Outcome::Refused(Refusal::Late).told());
     }
     take(buffer, data, reception, done, from, stamp)
 }
@@ -162,32 +151,27 @@ pub fn step(
     reception: Reception,
     judged: Judged,
     stamp: u32,
-) -> Moved
-    requires { ⌜ (soundReception reception ≡ true) × (length (now buffer) ≡ bufferLength) × ((p : Position) (L : ℕ) → judged ≡ First p L → 8 ≤ length (now «data»)) ⌝ }
-    ensures { λ r. ⌜ (r ≡ moved (judgedPlace judged) (stepOf reception judged (length (now («data» .entry))) stamp))
+) -> StepTold
+    requires { ⌜ (inBytes reception ≡ true) × (soundReception reception ≡ true) × (length (now buffer) ≡ bufferLength) × ((p : Position) (L : ℕ) → judged ≡ First p L → 8 ≤ length (now «data»)) ⌝ }
+    ensures { λ r. ⌜ (r ≡ stepTold (stepOf reception judged (length (now («data» .entry))) stamp))
         × (now (buffer .exit) ≡ writtenBy (now (buffer .entry)) (stepOf reception judged (length (now («data» .entry))) stamp) (now («data» .entry))) ⌝ }
 {
     match judged {
-        Judged::Refused(why) => Moved {
-            place: 0,
-            reception,
-            outcome: Outcome::Refused(why),
-        },
+        Judged::Refused(why) => leave(reception, Outcome::Refused(why).told()),
         Judged::Single {
             from,
             functional,
             length,
         } => leave(
-            from,
             behind_single(reception, functional),
             Outcome::Single {
                 from,
                 functional,
                 length,
-            },
+            }.told(),
         ),
         Judged::First { from, length } => open_anew(buffer, data, from, length, stamp),
-        Judged::OverLong { from } => close(from, Outcome::OverLong { from }),
+        Judged::OverLong { from } => close(Outcome::OverLong { from }.told()),
         Judged::Consecutive { from, number } => {
             follow(buffer, data, reception, from, number, stamp)
         }

@@ -9,12 +9,12 @@ use lib.Dec.{lit<, lit≤}
 use lib.ListN.{length, replicate, length-replicate}
 use Rattle.readings.specs.Positions.{placeOf}
 use Rattle.readings.specs.declared.position.Position.{Position}
-use Rattle.receiver.specs.declared.node.Node.{Node}
 use Rattle.receiver.specs.declared.cutter.FrameCut.{FrameCut}
 use Rattle.receiver.specs.Frames.{Frame}
 use Rattle.trains.specs.Sequences.{Line, start, _▹_, Request, Stands, ReadAs, none-yet, no-more, one-more}
 use Rattle.trains.specs.Runs.{Held, handedAt, requests}
 use Rattle.trains.specs.Terms.{same, later, fromAddress}
+use Rattle.receiver.specs.Nodes.{Node}
 use Rattle.receiver.proofs.LawsNodes.{made-fresh, start-fresh}
 use Rattle.receiver.proofs.LawsFollowed.{gap-on}
 use Rattle.receiver.proofs.LawsCutter.{none-16, cut-16, only-16}

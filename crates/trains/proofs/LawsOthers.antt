@@ -7,10 +7,9 @@ use lib.ListN.{length}
 use Rattle.readings.specs.Positions.{placeOf}
 use Rattle.readings.specs.declared.position.Position.{Position}
 use Rattle.readings.specs.declared.position.Vehicle.the-variants.{At}
-use Rattle.receiver.specs.declared.node.Node.{Node}
 use Rattle.receiver.specs.declared.frame.Judged.{Judged}
 use Rattle.receiver.specs.declared.frame.Judged.the-variants.{Refused, Single, First, OverLong, Consecutive}
-use Rattle.receiver.specs.Nodes.{receptionAt}
+use Rattle.receiver.specs.Nodes.{Node, receptionAt}
 use Rattle.receiver.specs.Steps.{stepOf, judgedPlace}
 use Rattle.receiver.proofs.LawsSteps.{Fitted}
 use Rattle.receiver.proofs.LawsGiven.{refused-gives, functional-gives}

@@ -2,14 +2,13 @@
 use mathlib.Core.Bool.{false}
 use mathlib.Core.List.{List, [], _∷_, _++_}
 use Prim.Native.Nat.{ℕ}
-use Rattle.receiver.specs.declared.node.Node.{Node}
 use Rattle.receiver.specs.declared.outcome.Outcome.{Outcome}
 use Rattle.receiver.specs.declared.outcome.Outcome.the-variants.{Refused, OverLong, Opened, Taken, Single, Train}
-use Rattle.receiver.specs.declared.receiving.Received.{Received}
 use Rattle.receiver.specs.Frames.{Frame}
-use Rattle.receiver.specs.Receiving.{receivedOf, bufferAfter}
+use Rattle.receiver.specs.Receiving.{Received, receivedOf, bufferAfter}
 use Rattle.receiver.specs.Shown.{shownOf}
 use Rattle.trains.specs.Sequences.{Line, start, _▹_, size, Request}
+use Rattle.receiver.specs.Nodes.{Node}
 
 -- the node and its buffer
 pub record Held : Type 0 where

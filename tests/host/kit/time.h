@@ -1,6 +1,9 @@
 #ifndef KIT_TIME_H
 #define KIT_TIME_H
-typedef long clock_t;
-#define CLOCKS_PER_SEC 1000000L
-clock_t clock(void);
+struct timespec {
+    long tv_sec;
+    long tv_nsec;
+};
+#define TIME_UTC 1
+int timespec_get(struct timespec *time, int base);
 #endif

@@ -62,7 +62,7 @@ use Rattle.server.proofs.serving.Reply.told as told
 use Rattle.server.proofs.serving.Reply.told.Symbol as told-def
 use Rattle.server.proofs.serving.Reply.told.Symbol.{name as #server·told}
 use Rattle.server.proofs.serving.Reply.told.Met as told-thm
-use Rattle.castanhiu.proofs.Lent.{mach, typed, opened, closed, asks, answered}
+use Rattle.castanhiu.proofs.Lent.{mach, typed, opened, closed, asks, alone, answered}
 use Rattle.castanhiu.proofs.trailer.castanhiu_serve.Key.{name as #castanhiu·serve}
 use Rattle.castanhiu.proofs.trailer.castanhiu_serve as host
 use Rattle.castanhiu.proofs.trailer.castanhiu_serve.Statement as stated
@@ -156,7 +156,7 @@ module _ {M : Type 1} (𝓤 : URA M) (H : Heap 𝓤) (A : Atoms 𝓤) (at-mem : 
           move ! (3 ∷ 4 ∷ 5 ∷ 6 ∷ []) $ closed ! tt (after r) (made r w was is) b o $
           -- `told`
           -- [obs; the borrow; its token; the last response; true; the other tokens; _8; …]
-          nothing ! $ owned ! N.the-row (Is N.the-row) (EL.makes N.the-type N′.the-plain 𝓤 H A) (r .reply) _ (parts .1 .0) $ fjoin ! $ nothing ! $ use2 W (raw (Told .pre (to-told (r .reply)))) (asks 𝓤 _) $
+          alone ! N.the-row (EL.makes N.the-type N′.the-plain 𝓤 H A) (r .reply) _ (parts .1 .0) $
           calls-at ! (fmOf 𝓤 H (W .laws) 𝓣) Told known-told (to-told (r .reply)) (and-then ! (load ! (from ! (fld ! refl (stop !))) (look-in ! 13 (sub ! 1 refl (whole !)))) (no-more !)) (λ v.
           answered ! tt told.ended (told.clauses 𝓤 H A at-mem run) (to-told (r .reply)) v (λ d _ are. heard ! _ (λ n.
           -- [what is told; nothing that lasts; no token; obs; the borrow; its token; the last response; true; the other tokens; _8; …; the request; true]

@@ -57,7 +57,7 @@ use Rattle.identifiers.proofs.answer.Answer.told as told
 use Rattle.identifiers.proofs.answer.Answer.told.Symbol as told-def
 use Rattle.identifiers.proofs.answer.Answer.told.Symbol.{name as #identifiers·told}
 use Rattle.identifiers.proofs.answer.Answer.told.Met as told-thm
-use Rattle.castanhiu.proofs.Lent.{mach, typed, opened, closed, asks, answered}
+use Rattle.castanhiu.proofs.Lent.{mach, typed, opened, closed, asks, alone, answered}
 use Rattle.castanhiu.proofs.trailer.castanhiu_set_status.Key.{name as #castanhiu·set-status}
 use Rattle.castanhiu.proofs.trailer.castanhiu_set_status as host
 use Rattle.castanhiu.proofs.trailer.castanhiu_set_status.Statement as stated
@@ -136,7 +136,7 @@ module _ {M : Type 1} (𝓤 : URA M) (H : Heap 𝓤) (A : Atoms 𝓤) (at-mem : 
           move ! (1 ∷ 2 ∷ 3 ∷ 4 ∷ []) $ closed ! tt (after r) (made r w was is) b o $
           -- `told`
           -- [obs; the borrow; its token; no other token; _5; …]
-          nothing ! $ owned ! N.the-row (Is N.the-row) (EL.makes N.the-type N′.the-plain 𝓤 H A) (r .answer) _ (parts .1 .0) $ fjoin ! $ nothing ! $ use2 W (raw (Told .pre (to-told (r .answer)))) (asks 𝓤 _) $
+          alone ! N.the-row (EL.makes N.the-type N′.the-plain 𝓤 H A) (r .answer) _ (parts .1 .0) $
           calls-at ! (fmOf 𝓤 H (W .laws) 𝓣) Told known-told (to-told (r .answer)) (and-then ! (load ! (from ! (fld ! refl (stop !))) (look-in ! 7 (sub ! 1 refl (whole !)))) (no-more !)) (λ v.
           answered ! tt told.ended (told.clauses 𝓤 H A at-mem run) (to-told (r .answer)) v (λ d _ are. heard ! _ (λ n.
           -- [what is told; nothing that lasts; no token; obs; the borrow; its token; no other token; _5; …]

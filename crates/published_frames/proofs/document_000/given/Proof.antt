@@ -12,5 +12,5 @@ slice-aggregate-offer : tie.Need-slice-aggregate-offer
 slice-aggregate-offer c = sym (length-take-le {A = ℕ} (c .before .before .value .result % 1538) (replicate 1537 0) (omega (arith, length-replicate {A = ℕ} 1537 0)))
 
 pub given-spec : {M : Type 1} → statement M
-given-spec = tie.close (tie.spec (λ c κs. tt) (λ c. search needs) (λ c κs. tt) (λ c. search needs) slice-aggregate-offer (λ c. search needs) (λ c κs. tt)
+given-spec = tie.close (tie.spec (λ c κs. tt) (λ c κs. tt) (λ c. search needs) (λ c. search needs) slice-aggregate-offer (λ c. search needs) (λ c κs. tt)
     (λ c. search needs))

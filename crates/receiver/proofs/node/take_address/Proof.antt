@@ -1,46 +1,66 @@
--- `take_address` meets its contract: each return is at one of the laws of `takenBy`.
-use mathlib.Core.Path.{sym, _∙_}
+-- `take_address` meets its contract: each return is at one of the laws of taking an address.
+use mathlib.Core.Path.{_≡_, sym, _∙_}
+use mathlib.Core.Bool.{true}
+use mathlib.Core.List.{List}
+use Prim.Native.Nat.{ℕ}
 use borrow.Author.Needs.{needs}
 use borrow.Author.Tests.{not-true, not-false}
-use Rattle.receiver.specs.Nodes.{done}
-use Rattle.receiver.proofs.LawsNodes.{address-1, address-15, same-position, new-position}
+use Rattle.receiver.specs.Lent.{nodeIn, soundLent}
+use Rattle.receiver.proofs.LawsNodes.{address-15, same-position, new-position}
+use Rattle.receiver.proofs.LawsRow.{numbers-back}
+use Rattle.receiver.proofs.LawsLent.{lent-sound, unit-byte, lent-taken, lent-address-1, left-so, done-so}
 use Rattle.receiver.proofs.node.take_address.Statement.{statement}
 use Rattle.receiver.proofs.node.take_address.Tie as tie
 
 returns : tie.Need-returns
-returns c = (c .unchanged .ensures) ∙ sym (address-1 _ _ (sym (c .before .before .is-sound .ensures) ∙ not-true _ (c .before .if1 .taken)))
+returns c = left-so _ _ _ (lent-address-1 _ _ (sym (c .before .is-sound .ensures) ∙ not-true _ (c .if1 .taken)))
+
+-- ---- behind 1: the node keeps its rules
+abbrev entry : tie.Else1 → tie.Start
+entry k = k .before .before .before .before .before
+
+abbrev numbers : tie.Else1 → List ℕ
+numbers k = entry k .args .node .now
+
+sound : (k : tie.Else1) → soundLent (nodeIn (numbers k)) ≡ true
+sound k = sym (k .before .is-sound .ensures) ∙ not-false _ (k .if1 .left)
 
 returns-2 : tie.Need-returns-2
 returns-2 c =
-    let at-after = c .before .before .before in
-    let at-if1 = at-after .before in
-    let sound = sym (at-if1 .before .is-sound .ensures) ∙ not-false _ (at-if1 .if1 .left) in
-    (c .unchanged2 .ensures) ∙ sym (address-15 _ _ sound _ (sym (at-after .after .ensures) ∙ (c .before .enum-told .given .1)))
+    let at-after = c .before .before in
+    let k = at-after .before in
+    left-so _ _ _ (lent-taken _ _ (sound k) ∙ address-15 _ _ (lent-sound _ (sound k)) _ (sym (at-after .after .ensures) ∙ (c .enum-told .given .1)))
+
+-- ---- behind 15: there is a position to take
+abbrev is-sound : tie.After-place → tie.Else1
+is-sound k = k .before .before .before .before .before
 
 returns-3 : tie.Need-returns-3
-unfolding done
+unfolding nodeIn
 returns-3 c =
-    let at-position = c .before .before .before .before in
-    let at-after = at-position .before .before in
-    let at-if1 = at-after .before in
-    let entry = at-if1 .before .before in
-    let sound = sym (at-if1 .before .is-sound .ensures) ∙ not-false _ (at-if1 .if1 .left) in
-    let after = sym (at-after .after .ensures) ∙ (at-position .position .given .1) in
-    let same = sym (c .before .before .place .ensures) ∙ (c .if2 .taken) in
-    sym (same-position (entry .args .node) (entry .args .source) sound _ after same)
+    let at-if2 = c .before .before in
+    let at-place = at-if2 .before .before .before in
+    let at-position = at-place .before .before in
+    let after = sym (at-position .before .before .after .ensures) ∙ (at-position .position .given .1) in
+    let k = is-sound at-place in
+    let another = rw (at-place .place .ensures) at (at-if2 .if2 .taken) in
+    done-so (numbers k) _ (lent-taken _ _ (sound k) ∙ new-position (nodeIn (numbers k)) _ (lent-sound _ (sound k)) _ after another)
+    (rw (at-place .place .ensures) at (c .put-fresh .ensures))
 
 returns-4 : tie.Need-returns-4
-unfolding done
+unfolding nodeIn
 returns-4 c =
     let at-place = c .before .before .before in
     let at-position = at-place .before .before in
-    let at-after = at-position .before .before in
-    let at-if1 = at-after .before in
-    let entry = at-if1 .before .before in
-    let sound = sym (at-if1 .before .is-sound .ensures) ∙ not-false _ (at-if1 .if1 .left) in
-    let after = sym (at-after .after .ensures) ∙ (at-position .position .given .1) in
-    let another = rw (at-place .place .ensures) at (c .before .if2 .left) in
-    rw ((c .fresh-node .ensures), (at-place .place .ensures)) (sym (new-position (entry .args .node) (entry .args .source) sound _ after another))
+    let after = sym (at-position .before .before .after .ensures) ∙ (at-position .position .given .1) in
+    let k = is-sound at-place in
+    let same = sym (at-place .place .ensures) ∙ (c .if2 .left) in
+    done-so (numbers k) _ (lent-taken _ _ (sound k) ∙ same-position (nodeIn (numbers k)) _ (lent-sound _ (sound k)) _ after same)
+    (sym (numbers-back (numbers k) (k .before .before .before .count .ensures .1)))
+
+cast-unit : tie.Need-cast-unit
+unfolding nodeIn
+cast-unit c = let k = is-sound (c .before) in record { fits = unit-byte (nodeIn (numbers k)) (sound k) }
 
 pub take-address-spec : {M : Type 1} → statement M
 take-address-spec =
@@ -52,9 +72,12 @@ take-address-spec =
     (λ c κs. tt)
     (λ c. search needs)
     (λ c. search needs)
-    (λ c κs. tt)
     returns-2
     (λ c κs. tt)
-    returns-3
+    (λ c. search needs)
+    cast-unit
+    (λ c. search needs)
+    (λ c. search needs)
     (λ c κs. tt)
+    returns-3
     returns-4)

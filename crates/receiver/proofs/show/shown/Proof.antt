@@ -1,38 +1,30 @@
--- `shown` meets its contract: a part of the data or of the buffer, by the outcome.
-use mathlib.Core.Path.{_≡_, refl, sym, ap, _∙_}
-use mathlib.Core.List.{List, [], _∷_}
+-- `shown` meets its contract: of the frame's data where a single frame is handed out, else of the buffer.
+use mathlib.Core.Path.{_≡_, sym, ap, _∙_}
+use mathlib.Core.List.{List}
 use Prim.Native.Nat.{ℕ}
-use types.Run.{OneOf, miss}
-use denote.Enum.Declared.{tagOf}
 use borrow.Author.Needs.{needs}
-use Rattle.receiver.specs.declared.outcome.Outcome.{Outcome}
-use Rattle.receiver.specs.declared.outcome.Outcome.the-variants.{Refused, OverLong, Opened, Taken, Single, Train}
-use Rattle.receiver.specs.Shown.{shownOf}
-use Rattle.receiver.proofs.outcome.Outcome.{the-type}
+use borrow.Author.Tests.{eq-eqb, ne-eqb}
+use lib.ListN.{take, drop}
+use Rattle.identifiers.proofs.LawsChoice.{pick-true, pick-false}
+use Rattle.receiver.specs.declared.outcome.OutcomeTold.{OutcomeTold}
+use Rattle.receiver.specs.Shown.{toldMessage}
 use Rattle.receiver.proofs.show.shown.Statement.{statement}
 use Rattle.receiver.proofs.show.shown.Tie as tie
 
+module _ (t : OutcomeTold) (bytes buffer : List ℕ) where
+  of-data : t .«handed_out» ≡ 1 → toldMessage t bytes buffer ≡ take (t .length) (drop (t .start) bytes)
+  unfolding toldMessage
+  of-data e = ap (λ (l : List ℕ). take (t .length) (drop (t .start) l)) (pick-true _ _ (eq-eqb _ _ e))
+
+  of-buffer : (t .«handed_out» ≡ 1 → ⊥) → toldMessage t bytes buffer ≡ take (t .length) (drop (t .start) buffer)
+  unfolding toldMessage
+  of-buffer e = ap (λ (l : List ℕ). take (t .length) (drop (t .start) l)) (pick-false _ _ (ne-eqb _ _ e))
+
 returns : tie.Need-returns
-unfolding shownOf
-returns c = (c .part .ensures) ∙ ap (shownOf _ _) (sym (c .before .before .outcome .given .1))
+returns c = let a = c .before .before .before .before .before .before .before .args in (c .part .ensures) ∙ sym (of-data (a .outcome) (a .«data» .now) (a .buffer .now) (c .before .before .before .if1 .taken))
 
 returns-2 : tie.Need-returns-2
-unfolding shownOf
-returns-2 c =
-    let at-outcome2 = c .before .before .before in
-    (c .part2 .ensures) ∙ rw (c .before .region .ensures .0) (ap (shownOf _ _) (sym (at-outcome2 .outcome2 .given .1)))
-
-nothing-shown : (bytes buffer : List ℕ) (o : Outcome) → OneOf (0 ∷ 1 ∷ 2 ∷ 3 ∷ []) (tagOf the-type o) → [] ≡ shownOf bytes buffer o
-unfolding shownOf
-nothing-shown bytes buffer (Refused why) k = refl
-nothing-shown bytes buffer (OverLong from) k = refl
-nothing-shown bytes buffer (Opened from) k = refl
-nothing-shown bytes buffer (Taken from) k = refl
-nothing-shown bytes buffer (Single from functional L) k = absurd (miss (0 ∷ 1 ∷ 2 ∷ 3 ∷ []) 4 tt k)
-nothing-shown bytes buffer (Train from L) k = absurd (miss (0 ∷ 1 ∷ 2 ∷ 3 ∷ []) 5 tt k)
-
-returns-3 : tie.Need-returns-3
-returns-3 c = (c .part3 .ensures) ∙ nothing-shown _ _ _ (c .before .match .keys3)
+returns-2 c = let a = c .before .before .before .before .before .before .before .args in (c .part2 .ensures) ∙ sym (of-buffer (a .outcome) (a .«data» .now) (a .buffer .now) (c .before .before .before .if1 .left))
 
 pub shown-spec : {M : Type 1} → statement M
 shown-spec =
@@ -41,11 +33,8 @@ shown-spec =
     (λ c. search needs)
     (λ c. search needs)
     (λ c κs. tt)
-    (λ c. search needs)
-    (λ c κs. tt)
-    (λ c. search needs)
-    (λ c κs. tt)
-    (λ c κs. tt)
     returns
-    returns-2
-    returns-3)
+    (λ c. search needs)
+    (λ c. search needs)
+    (λ c κs. tt)
+    returns-2)

@@ -5,39 +5,42 @@ use Prim.Native.Nat.{ℕ}
 use lib.ListN.{length}
 use borrow.Author.Needs.{needs}
 use Rattle.receiver.specs.declared.frame.Judged.{Judged}
-use Rattle.receiver.specs.declared.steps.Moved.{Moved}
-use Rattle.receiver.specs.Steps.{Step, judgedPlace, moved, leaving, stepOf, writtenBy}
+use Rattle.receiver.specs.declared.outcome.Outcome.the-variants.{Refused, Single, OverLong}
+use Rattle.receiver.specs.declared.steps.StepTold.{StepTold}
+use Rattle.receiver.specs.Steps.{Step, stepTold, stepOf, writtenBy}
 use Rattle.receiver.proofs.LawsSteps.{unwritten, unclosed}
 use Rattle.receiver.proofs.steps.step.Statement.{statement}
 use Rattle.receiver.proofs.steps.step.Tie as tie
 
 module _ (s : tie.Start) {j : Judged} (is : s .args .judged ≡ j) where
-  -- the step by a frame that is judged so, and what is moved by it
+  -- the step by a frame that is judged so, and what it does
   abbrev by : Judged → Step
   by i = stepOf (s .args .reception) i (length (s .args .«data» .now)) (s .args .stamp)
 
-  abbrev Does : Moved → List ℕ → Judged → Type 0
-  Does r after i = (r ≡ moved (judgedPlace i) (by i)) × (after ≡ writtenBy (s .args .buffer .now) (by i) (s .args .«data» .now))
+  abbrev Does : StepTold → List ℕ → Judged → Type 0
+  Does r after i = (r ≡ stepTold (by i)) × (after ≡ writtenBy (s .args .buffer .now) (by i) (s .args .«data» .now))
 
-  so : (r : Moved) (after : List ℕ) → Does r after j → Does r after (s .args .judged)
+  so : (r : StepTold) (after : List ℕ) → Does r after j → Does r after (s .args .judged)
   so r after d = subst (Does r after) (sym is) d
 
 open-anew-requires : tie.Need-open-anew-requires
 open-anew-requires c κs =
     let entry = c .before .before .before .before .before .before in
-    ((entry .pre .1), (entry .pre .2) _ _ (c .before .before .judged3 .given .1))
+    ((entry .pre .2), (entry .pre .3) _ _ (c .before .before .judged3 .given .1))
 
 returns : tie.Need-returns
-unfolding stepOf leaving
+unfolding stepOf
 returns c =
-    let s = c .before .before .before .before .before in
-    so s (c .before .judged .given .1) _ _ (refl, unwritten _ _ _ _ refl)
+    let s = c .before .before .before .before .before .before .before in
+    so s (c .before .before .before .judged .given .1) _ _ (c .leave .ensures (Refused _) (c .before .told .ensures), unwritten _ _ _ _ refl)
 
 returns-2 : tie.Need-returns-2
 unfolding stepOf
 returns-2 c =
-    let s = c .before .before .before .before .before .before .before in
-    so s (c .before .before .before .judged2 .given .1) _ _ (rw (c .before .behind-single .ensures) at (c .leave .ensures), unwritten _ _ _ _ refl)
+    let at-behind-single = c .before .before in
+    let s = at-behind-single .before .before .before .before .before .before in
+    so s (at-behind-single .before .before .judged2 .given .1) _ _
+    (rw (at-behind-single .behind-single .ensures) at (c .leave2 .ensures (Single _ _ _) (c .before .told2 .ensures)), unwritten _ _ _ _ refl)
 
 returns-3 : tie.Need-returns-3
 unfolding stepOf
@@ -49,8 +52,8 @@ returns-3 c =
 returns-4 : tie.Need-returns-4
 unfolding stepOf
 returns-4 c =
-    let s = c .before .before .before .before .before .before in
-    so s (c .before .before .judged4 .given .1) _ _ (c .close .ensures, unclosed _ _ _ refl)
+    let s = c .before .before .before .before .before .before .before in
+    so s (c .before .before .before .judged4 .given .1) _ _ (c .close .ensures (OverLong _) (c .before .told3 .ensures), unclosed _ _ _ refl)
 
 returns-5 : tie.Need-returns-5
 unfolding stepOf
@@ -64,12 +67,16 @@ step-spec =
     tie.close
     (tie.spec
     (λ c. search needs)
+    (λ c κs. tt)
+    (λ c κs. tt)
     (λ c. search needs)
+    (λ c κs. tt)
     (λ c κs. tt)
     (λ c κs. tt)
     (λ c. search needs)
     open-anew-requires
     (λ c. search needs)
+    (λ c κs. tt)
     (λ c κs. tt)
     (λ c. search needs)
     (λ c κs. search needs)
