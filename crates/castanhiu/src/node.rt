@@ -2,8 +2,7 @@
 ghost use mathlib.Core.Path.{_≡_};
 ghost use Rattle.identifiers.specs.Answers.{answerTold};
 ghost use Rattle.receiver.specs.Nodes.{startOf, freshOf};
-ghost use Rattle.receiver.specs.Outcomes.{outcomeTold};
-ghost use Rattle.receiver.specs.Lent.{nodeIn, numbersOf, lentReceived, lentBuffer, lentTaken, stored};
+ghost use Rattle.receiver.specs.Lent.{nodeIn, numbersOf, Receives, lentTaken, stored};
 use identifiers::AnswerTold;
 use receiver::NODE;
 use receiver::OutcomeTold;
@@ -42,9 +41,7 @@ pub extern "C" fn castanhiu_receive(
     data: &[u8],
     stamp: u32,
 ) -> OutcomeTold
-    ensures { λ r. ⌜ (r ≡ outcomeTold (lentReceived (nodeIn (now (node .entry))) (now (buffer .entry)) identifier (now («data» .entry)) stamp .outcome))
-        × ((now (node .exit) ≡ numbersOf (lentReceived (nodeIn (now (node .entry))) (now (buffer .entry)) identifier (now («data» .entry)) stamp .node))
-        × (now (buffer .exit) ≡ lentBuffer (nodeIn (now (node .entry))) (now (buffer .entry)) identifier (now («data» .entry)) stamp)) ⌝ }
+    ensures { λ r. ⌜ Receives (now (node .entry)) (now (buffer .entry)) identifier (now («data» .entry)) stamp r (now (node .exit)) (now (buffer .exit)) ⌝ }
 {
     receive(node, buffer, identifier, data, stamp)
 }

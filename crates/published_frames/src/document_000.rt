@@ -1,5 +1,7 @@
 // Document 000: frames offered to a node, what it says to them and the message that it shows; messages cut into frames, and read back.
 ghost use mathlib.Core.Path.{_≡_};
+ghost use Prim.Native.Nat.{_%_};
+ghost use Rattle.receiver.specs.Nodes.{startOf};
 ghost use Rattle.receiver.specs.Lent.{nodeIn, numbersOf, lentReceived, lentBuffer};
 use published_lines::*;
 use receiver::*;
@@ -52,7 +54,9 @@ fn offer(node: &mut [u32; NODE], buffer: &mut [u8], identifier: u32, data: &[u8]
 }
 
 // A trailer that starts, with unit 5.
-fn started() -> [u32; NODE] {
+fn started() -> [u32; NODE]
+    ensures { λ r. ⌜ r ≡ numbersOf (startOf 5) ⌝ }
+{
     let mut node = [0; NODE];
     start(&mut node, 5);
     node
@@ -136,7 +140,9 @@ pub fn given(case: &[u8]) {
 }
 
 // The lowest byte of a number.
-fn low(number: u32) -> u8 {
+fn low(number: u32) -> u8
+    ensures { λ r. ⌜ r ≡ number % 256 ⌝ }
+{
     (number % 256) as u8
 }
 

@@ -27,7 +27,7 @@ use Rattle.receiver.proofs.LawsNodes.{fresh-closed}
 use Rattle.receiver.proofs.LawsRules.{set-cases}
 use Rattle.receiver.proofs.LawsSteps.{place-judged}
 use Rattle.receiver.proofs.LawsReceived.{ready, received-is, received-1}
-use Rattle.receiver.proofs.LawsLent.{length-byte}
+use Rattle.receiver.proofs.LawsLentRules.{length-byte}
 
 -- ---- one reception
 closed-bytes : inBytes closed ≡ true

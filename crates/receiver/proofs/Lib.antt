@@ -15,6 +15,7 @@ pub mod LawsSteps
 pub mod LawsGiven
 pub mod LawsOthers
 pub mod LawsReceived
+pub mod LawsLentRules
 pub mod LawsLent
 pub mod LawsBytesKept
 pub mod EachRefusal

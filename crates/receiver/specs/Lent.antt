@@ -1,4 +1,5 @@
 -- The node as a host lends it: twenty numbers, the own position and the unit, then length, taken and last stamp of one reception after the other.
+use mathlib.Core.Path.{_≡_}
 use mathlib.Core.Bool.{Bool}
 use mathlib.Core.List.{List, [], _∷_}
 use Prim.Native.Nat.{ℕ}
@@ -11,6 +12,8 @@ use Rattle.identifiers.specs.declared.answer.Answer.{Answer}
 use Rattle.identifiers.specs.declared.answer.Answer.the-variants as answer
 use Rattle.receiver.specs.declared.reception.Reception.{Reception}
 use Rattle.receiver.specs.declared.outcome.Outcome.the-variants.{Refused}
+use Rattle.receiver.specs.declared.outcome.OutcomeTold.{OutcomeTold}
+use Rattle.receiver.specs.Outcomes.{outcomeTold}
 use Rattle.receiver.specs.Receptions.{openWith}
 use Rattle.receiver.specs.Nodes.{Node, Changed, receptionAt, soundNode, unchanged, takenBy}
 use Rattle.receiver.specs.Receiving.{Received, receivedOf, bufferAfter}
@@ -50,6 +53,12 @@ lentReceived n buffer identifier bytes stamp = pick (bytesIn n) (receivedOf n bu
 
 unfoldable pub lentBuffer : Node → List ℕ → ℕ → List ℕ → ℕ → List ℕ
 lentBuffer n buffer identifier bytes stamp = pick (bytesIn n) (bufferAfter n buffer identifier bytes stamp) buffer
+
+-- so what a call answers and leaves: the outcome in numbers, the numbers of the node, and the buffer
+abbrev pub Receives : List ℕ → List ℕ → ℕ → List ℕ → ℕ → OutcomeTold → List ℕ → List ℕ → Type 0
+Receives numbers buffer identifier bytes stamp told after filled =
+    (told ≡ outcomeTold (lentReceived (nodeIn numbers) buffer identifier bytes stamp .outcome))
+    × ((after ≡ numbersOf (lentReceived (nodeIn numbers) buffer identifier bytes stamp .node)) × (filled ≡ lentBuffer (nodeIn numbers) buffer identifier bytes stamp))
 
 -- an address taken
 unfoldable pub lentTaken : Node → ℕ → Changed

@@ -1,9 +1,8 @@
 // One frame offered to a node: judged by itself, then by its vehicle's reception; the bytes written; the next node.
 ghost use mathlib.Core.Path.{_≡_};
 ghost use Prim.Native.Nat.{_<_};
-ghost use Rattle.receiver.specs.Outcomes.{outcomeTold};
 ghost use Rattle.receiver.specs.Steps.{judgedPlace};
-ghost use Rattle.receiver.specs.Lent.{nodeIn, numbersOf, lentReceived, lentBuffer};
+ghost use Rattle.receiver.specs.Lent.{Receives};
 use crate::frame::Judged;
 use crate::frame::judge;
 use crate::node::NODE;
@@ -45,9 +44,7 @@ pub fn receive(
     data: &[u8],
     stamp: u32,
 ) -> OutcomeTold
-    ensures { λ r. ⌜ (r ≡ outcomeTold (lentReceived (nodeIn (now (node .entry))) (now (buffer .entry)) identifier (now («data» .entry)) stamp .outcome))
-        × ((now (node .exit) ≡ numbersOf (lentReceived (nodeIn (now (node .entry))) (now (buffer .entry)) identifier (now («data» .entry)) stamp .node))
-        × (now (buffer .exit) ≡ lentBuffer (nodeIn (now (node .entry))) (now (buffer .entry)) identifier (now («data» .entry)) stamp)) ⌝ }
+    ensures { λ r. ⌜ Receives (now (node .entry)) (now (buffer .entry)) identifier (now («data» .entry)) stamp r (now (node .exit)) (now (buffer .exit)) ⌝ }
 {
     count(node);
     if buffer.len() != BUFFER {

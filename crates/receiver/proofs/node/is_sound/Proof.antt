@@ -8,7 +8,7 @@ use borrow.Author.Tests.{not-true, not-false}
 use Rattle.identifiers.specs.Below.{allBelow}
 use Rattle.identifiers.proofs.LawsBelow.{all-none, all-more}
 use Rattle.receiver.specs.Lent.{nodeIn}
-use Rattle.receiver.proofs.LawsLent.{keeps, own-under, own-over, unit-over, reception-breaks, all-kept}
+use Rattle.receiver.proofs.LawsLentRules.{keeps, own-under, own-over, unit-over, reception-breaks, all-kept}
 use Rattle.receiver.proofs.node.is_sound.Statement.{statement}
 use Rattle.receiver.proofs.node.is_sound.Tie as tie
 

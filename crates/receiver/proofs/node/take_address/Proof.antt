@@ -3,12 +3,14 @@ use mathlib.Core.Path.{_≡_, sym, _∙_}
 use mathlib.Core.Bool.{true}
 use mathlib.Core.List.{List}
 use Prim.Native.Nat.{ℕ}
+use native.Mathlib.Omega.{arith}
 use borrow.Author.Needs.{needs}
 use borrow.Author.Tests.{not-true, not-false}
 use Rattle.receiver.specs.Lent.{nodeIn, soundLent}
 use Rattle.receiver.proofs.LawsNodes.{address-15, same-position, new-position}
 use Rattle.receiver.proofs.LawsRow.{numbers-back}
-use Rattle.receiver.proofs.LawsLent.{lent-sound, unit-byte, lent-taken, lent-address-1, left-so, done-so}
+use Rattle.receiver.proofs.LawsLentRules.{lent-sound, unit-byte}
+use Rattle.receiver.proofs.LawsLent.{lent-taken, lent-address-1, left-so, done-so}
 use Rattle.receiver.proofs.node.take_address.Statement.{statement}
 use Rattle.receiver.proofs.node.take_address.Tie as tie
 
@@ -74,10 +76,10 @@ take-address-spec =
     (λ c. search needs)
     returns-2
     (λ c κs. tt)
-    (λ c. search needs)
+    (λ c. omega arith)
     cast-unit
-    (λ c. search needs)
-    (λ c. search needs)
+    (λ c. omega arith)
+    (λ c. omega arith)
     (λ c κs. tt)
     returns-3
     returns-4)

@@ -2,6 +2,7 @@
 use mathlib.Core.Path.{_≡_, sym, ap, _∙_}
 use mathlib.Core.Bool.{true}
 use Prim.Native.Nat.{ℕ}
+use native.Mathlib.Omega.{arith}
 use borrow.Author.Needs.{needs}
 use borrow.Author.Tests.{not-true, not-false}
 use lib.ListN.{length}
@@ -13,7 +14,8 @@ use Rattle.receiver.specs.Lent.{nodeIn, soundLent}
 use Rattle.receiver.proofs.LawsFrames.{fair}
 use Rattle.receiver.proofs.LawsRules.{sound-at}
 use Rattle.receiver.proofs.LawsReceived.{own-is}
-use Rattle.receiver.proofs.LawsLent.{lent-sound, own-byte, unit-byte, bytes-at, other-length, rules-broken, refused-so, judged-so}
+use Rattle.receiver.proofs.LawsLentRules.{lent-sound, own-byte, unit-byte, bytes-at}
+use Rattle.receiver.proofs.LawsLent.{other-length, rules-broken, refused-so, judged-so}
 use Rattle.receiver.proofs.receiving.receive.Statement.{statement}
 use Rattle.receiver.proofs.receiving.receive.Tie as tie
 
@@ -107,14 +109,14 @@ receive-spec =
     (λ c κs. tt)
     (λ c κs. tt)
     returns-2
-    (λ c. search needs)
+    (λ c. omega arith)
     cast-trailer
     (λ c κs. tt)
     (λ c. search needs)
     (λ c. search needs)
     (λ c κs. tt)
     returns-3
-    (λ c. search needs)
+    (λ c. omega arith)
     cast-judge
     (λ c κs. tt)
     (λ c κs. tt)

@@ -11,7 +11,7 @@ use Rattle.receiver.specs.declared.outcome.Outcome.the-variants.{Taken, 
 use Rattle.receiver.specs.Receptions.{closed, openWith, regionAt}
 use Rattle.receiver.specs.Steps.{Step, stepTold, doneOf, leftOf, takenStep, writtenBy, closing, leaving}
 use Rattle.receiver.proofs.LawsRules.{open-facts}
-use Rattle.receiver.proofs.LawsLent.{length-byte}
+use Rattle.receiver.proofs.LawsLentRules.{length-byte}
 use Rattle.receiver.proofs.steps.take.Statement.{statement}
 use Rattle.receiver.proofs.steps.take.Tie as tie
 
