@@ -1,9 +1,11 @@
-/* Castanhiu: trailer diagnostics on the bus between towing and towed vehicle. Link libcastanhiu.a (x86-64 Linux).
+/* Castanhiu: trailer diagnostics on the bus between towing and towed vehicle. Link libcastanhiu.a, which tools/archive
+ * writes for the processor.
  *
  * Every function answers whatever it is handed: a refusal is one of the numbers below, 0 is none, and a refused answer has
- * all its other numbers 0, but for a node, and for the control that refusal 11 says is due and to whom. A slice is a pointer
- * and then its length; the pointer leads to that many bytes and is not null. What one call writes may not overlap with what
- * else it is lent. No function keeps memory, allocates, or calls out. Positions: 0 the towing vehicle, 1 to 5 the trailers.
+ * all its other numbers 0, but for the control that refusal 11 says is due and to whom. A slice is a pointer and then its
+ * length; the pointer leads to that many bytes and is not null. A node and a record are the host's, lent by a pointer that
+ * is not null. What one call writes may not overlap with what else it is lent. No function keeps memory, allocates, or
+ * calls out. Positions: 0 the towing vehicle, 1 to 5 the trailers.
  *
  * The rules stand in docs/RULES.md, numbered. */
 #ifndef CASTANHIU_H
@@ -56,8 +58,8 @@ typedef struct { uint8_t refusal; bool kept; uint8_t onward; } castanhiu_route_a
 typedef struct { uint8_t refusal, outcome; float value; int32_t whole; } castanhiu_parameter_answer;
 typedef struct { uint8_t refusal, outcome; } castanhiu_two_bits_answer;                              /* 0 no, 1 yes, 2 error, 3 not available */
 
-/* The node is the host's own memory. A reception is closed when all its numbers are 0; open: L, 7 to 255, the consecutive frames
- * taken, the last stamp. The own position is 1 to 5, the unit a byte: a node with any other number breaks its rules. */
+/* A reception is closed when all its numbers are 0; open: L, 7 to 255, the consecutive frames taken, the last stamp. The
+ * own position is 1 to 5, the unit 0 to 255. A node with another number there breaks its rules. */
 typedef struct { uint32_t length, taken, last; } castanhiu_reception;
 typedef struct { uint32_t own, unit; castanhiu_reception receptions[6]; } castanhiu_node;
 typedef struct { uint8_t refusal; } castanhiu_node_answer;
