@@ -76,10 +76,13 @@ module _ (numbers buffer : List ℕ) (identifier : ℕ) (bytes : List ℕ) (stam
 
   pub refused-so : length numbers ≡ 20 → (bytesIn n ≡ true → ownOf n (length buffer) ≡ NoVehicle) → {told : OutcomeTold} → told ≡ outcomeTold (Refused (refusal 1))
       → Receives numbers buffer identifier bytes stamp told numbers buffer
-  refused-so twenty none e = (
-    e ∙ sym (ap (λ (x : Received). outcomeTold (x .outcome)) (lent-1 n buffer identifier bytes stamp none)),
-    (sym (ap (λ (x : Received). numbersOf (x .node)) (lent-1 n buffer identifier bytes stamp none) ∙ numbers-back numbers twenty), sym (lent-kept n buffer identifier bytes stamp none)),
-  )
+  refused-so twenty none e =
+      let left = lent-1 n buffer identifier bytes stamp none in
+      record {
+        answers = e ∙ sym (ap (λ (x : Received). outcomeTold (x .outcome)) left);
+        leaves = sym (ap (λ (x : Received). numbersOf (x .node)) left ∙ numbers-back numbers twenty);
+        fills = sym (lent-kept n buffer identifier bytes stamp none);
+      }
 
   module _ (h : soundLent n ≡ true) (full : length buffer ≡ 1536) (own : Position) (at : trailerAt (n .own) ≡ At own) where
     abbrev frame : Judged
@@ -92,13 +95,12 @@ module _ (numbers buffer : List ℕ) (identifier : ℕ) (bytes : List ℕ) (stam
         → Receives numbers buffer identifier bytes stamp (s .outcome) after filled
     unfolding stepTold
     judged-so e a f =
-        let is = lent-received n buffer identifier bytes stamp (lent-bytes n h) ∙ received-is n buffer own (n .unit) (lent-sound n h) full at refl identifier bytes stamp in (
-          ap (λ (x : StepTold). x .outcome) e ∙ sym (ap (λ (x : Received). outcomeTold (x .outcome)) is),
-          (
-            a ∙ ap (λ (x : StepTold). numbersOf (withReception n (judgedPlace frame) (x .reception))) e ∙ sym (ap (λ (x : Received). numbersOf (x .node)) is),
-            f ∙ sym (lent-buffer n buffer identifier bytes stamp (lent-bytes n h) ∙ buffer-is n buffer own (n .unit) (lent-sound n h) full at refl identifier bytes stamp),
-          ),
-        )
+        let is = lent-received n buffer identifier bytes stamp (lent-bytes n h) ∙ received-is n buffer own (n .unit) (lent-sound n h) full at refl identifier bytes stamp in
+        record {
+          answers = ap (λ (x : StepTold). x .outcome) e ∙ sym (ap (λ (x : Received). outcomeTold (x .outcome)) is);
+          leaves = a ∙ ap (λ (x : StepTold). numbersOf (withReception n (judgedPlace frame) (x .reception))) e ∙ sym (ap (λ (x : Received). numbersOf (x .node)) is);
+          fills = f ∙ sym (lent-buffer n buffer identifier bytes stamp (lent-bytes n h) ∙ buffer-is n buffer own (n .unit) (lent-sound n h) full at refl identifier bytes stamp);
+        }
 
 -- ---- a node made or changed, or not
 pub left-so : {c : Changed} (numbers : List ℕ) (n : Node) (why : Refusal) → c ≡ unchanged n why → (answer.Refused why ≡ c .answer) × (numbers ≡ stored numbers c)

@@ -55,10 +55,10 @@ unfoldable pub lentBuffer : Node → List ℕ → ℕ → List ℕ → ℕ → L
 lentBuffer n buffer identifier bytes stamp = pick (bytesIn n) (bufferAfter n buffer identifier bytes stamp) buffer
 
 -- so what a call answers and leaves: the outcome in numbers, the numbers of the node, and the buffer
-abbrev pub Receives : List ℕ → List ℕ → ℕ → List ℕ → ℕ → OutcomeTold → List ℕ → List ℕ → Type 0
-Receives numbers buffer identifier bytes stamp told after filled =
-    (told ≡ outcomeTold (lentReceived (nodeIn numbers) buffer identifier bytes stamp .outcome))
-    × ((after ≡ numbersOf (lentReceived (nodeIn numbers) buffer identifier bytes stamp .node)) × (filled ≡ lentBuffer (nodeIn numbers) buffer identifier bytes stamp))
+pub record Receives (numbers buffer : List ℕ) (identifier : ℕ) (bytes : List ℕ) (stamp : ℕ) (told : OutcomeTold) (after filled : List ℕ) : Type 0 where
+  pub answers : told ≡ outcomeTold (lentReceived (nodeIn numbers) buffer identifier bytes stamp .outcome)
+  pub leaves : after ≡ numbersOf (lentReceived (nodeIn numbers) buffer identifier bytes stamp .node)
+  pub fills : filled ≡ lentBuffer (nodeIn numbers) buffer identifier bytes stamp
 
 -- an address taken
 unfoldable pub lentTaken : Node → ℕ → Changed
