@@ -1,5 +1,5 @@
 -- What every step promises: it reads bytes that the frame has, writes within its vehicle's part of the buffer, keeps the rules.
-use mathlib.Core.Path.{_≡_, refl, sym}
+use mathlib.Core.Path.{_≡_, refl, sym, ap₂, _∙_}
 use mathlib.Core.Bool.{Bool, true}
 use mathlib.Core.List.{List}
 use mathlib.Core.Logic.{_≢_}
@@ -17,9 +17,12 @@ use Rattle.receiver.specs.declared.reception.Reception.{Reception}
 use Rattle.receiver.specs.declared.frame.Judged.{Judged}
 use Rattle.receiver.specs.declared.frame.Judged.the-variants as judged
 use Rattle.receiver.specs.declared.outcome.Outcome.{Outcome}
+use Rattle.receiver.specs.declared.outcome.OutcomeTold.{OutcomeTold}
+use Rattle.receiver.specs.declared.steps.StepTold.{StepTold}
+use Rattle.receiver.specs.Outcomes.{outcomeTold}
 use Rattle.receiver.specs.Receptions.{closed, soundReception, regionAt}
 use Rattle.receiver.specs.Frames.{judgedOf}
-use Rattle.receiver.specs.Steps.{Step, leaving, closing, opened, doneOf, leftOf, takenStep, followed, behindSingle, stepOf, writtenBy, judgedPlace}
+use Rattle.receiver.specs.Steps.{stepTold, Step, leaving, closing, opened, doneOf, leftOf, takenStep, followed, behindSingle, stepOf, writtenBy, judgedPlace}
 use Rattle.receiver.specs.Receiving.{stepBy, movedBy, storedIn}
 use Rattle.receiver.specs.Nodes.{Node, receptionAt, soundNode}
 use Rattle.receiver.proofs.LawsFrames.{Fair, fair}
@@ -110,6 +113,16 @@ unwritten buffer r o bytes e = rw e (sym (leaving-writes buffer r o bytes))
 pub unclosed : (buffer : List ℕ) (o : Outcome) (bytes : List ℕ) {s : Step} → s ≡ closing o → buffer ≡ writtenBy buffer s bytes
 unfolding closing
 unclosed buffer o bytes e = unwritten buffer closed o bytes e
+
+-- the reception afterwards and the numbers of an outcome are what is told of the step
+module _ {s : StepTold} {t : OutcomeTold} (o : Outcome) where
+  pub leaving-told : {r : Reception} → (s .reception ≡ r) × (s .outcome ≡ t) → t ≡ outcomeTold o → s ≡ stepTold (leaving r o)
+  unfolding stepTold leaving
+  leaving-told is e = ap₂ (λ (r : Reception) (t : OutcomeTold). record { reception = r; outcome = t }) (is .0) (is .1 ∙ e)
+
+  pub closing-told : (s .reception ≡ closed) × (s .outcome ≡ t) → t ≡ outcomeTold o → s ≡ stepTold (closing o)
+  unfolding closing
+  closing-told is e = leaving-told is e
 
 -- ---- the step of a node that keeps its rules, by a frame that checks 2 to 10 judge
 module _ (n : Node) (own : Position) (identifier : ℕ) (bytes : List ℕ) (stamp : ℕ) (s : soundNode n ≡ true) where

@@ -5,11 +5,9 @@ ghost use Prim.Native.Nat.{ℕ, _+_, _≤_, min};
 ghost use lib.ListN.{length};
 ghost use Rattle.readings.specs.declared.position.Position.{Position};
 ghost use Rattle.receiver.specs.declared.frame.Judged.the-variants.{First};
-ghost use Rattle.receiver.specs.declared.outcome.Outcome.{Outcome};
-ghost use Rattle.receiver.specs.Receptions.{soundReception, bufferLength};
+ghost use Rattle.receiver.specs.Receptions.{closed, soundReception, bufferLength};
 ghost use Rattle.receiver.specs.Lent.{inBytes};
-ghost use Rattle.receiver.specs.Outcomes.{outcomeTold};
-ghost use Rattle.receiver.specs.Steps.{stepTold, gapOf, leaving, closing, opened, doneOf, leftOf, takenStep, followed, behindSingle, stepOf, writtenBy};
+ghost use Rattle.receiver.specs.Steps.{stepTold, gapOf, opened, doneOf, leftOf, takenStep, followed, behindSingle, stepOf, writtenBy};
 use crate::bytes::store;
 use crate::bytes::store_six;
 use crate::frame::Judged;
@@ -34,13 +32,13 @@ fn gap(later: u32, earlier: u32) -> u32
 }
 
 fn leave(reception: Reception, outcome: OutcomeTold) -> StepTold
-    ensures { λ r. ⌜ ((o : Outcome) → outcome ≡ outcomeTold o → r ≡ stepTold (leaving reception o)) ⌝ }
+    ensures { λ r. ⌜ (r .reception ≡ reception) × (r .outcome ≡ outcome) ⌝ }
 {
     StepTold { reception, outcome }
 }
 
 fn close(outcome: OutcomeTold) -> StepTold
-    ensures { λ r. ⌜ ((o : Outcome) → outcome ≡ outcomeTold o → r ≡ stepTold (closing o)) ⌝ }
+    ensures { λ r. ⌜ (r .reception ≡ closed) × (r .outcome ≡ outcome) ⌝ }
 {
     StepTold {
         reception: Reception::CLOSED,

@@ -1,7 +1,6 @@
 -- `put_reception` meets its contract: three numbers stored in a row.
 use mathlib.Core.Path.{_∙_}
 use native.Mathlib.Omega.{arith}
-use borrow.Author.Needs.{needs}
 use Rattle.identifiers.proofs.LawsBytes.{puts-byte, _▸_}
 use Rattle.receiver.proofs.LawsRow.{stored-in}
 use Rattle.receiver.proofs.node.put_reception.Statement.{statement}

@@ -11,7 +11,7 @@ use Rattle.receiver.specs.declared.reception.Reception.{Reception}
 use Rattle.receiver.specs.declared.outcome.Outcome.the-variants.{Refused}
 use Rattle.receiver.specs.Steps.{Step, stepTold, doneOf, leftOf, followed, writtenBy}
 use Rattle.receiver.proofs.LawsRules.{open-facts}
-use Rattle.receiver.proofs.LawsSteps.{unwritten, unclosed}
+use Rattle.receiver.proofs.LawsSteps.{unwritten, unclosed, leaving-told, closing-told}
 use Rattle.receiver.proofs.LawsFollowed.{followed-short, followed-wrong, followed-late, followed-taken}
 use Rattle.receiver.proofs.steps.follow.Statement.{statement}
 use Rattle.receiver.proofs.steps.follow.Tie as tie
@@ -43,7 +43,7 @@ returns : tie.Need-returns
 unfolding followed
 returns c =
     let e = taken _ (eq-eqb _ _ (c .before .before .if1 .taken)) refl in
-    (c .leave .ensures (Refused _) (c .before .told .ensures) ∙ ap stepTold e, unwritten _ _ _ _ (sym e))
+    (leaving-told (Refused _) (c .leave .ensures) (c .before .told .ensures) ∙ ap stepTold e, unwritten _ _ _ _ (sym e))
 
 returns-2 : tie.Need-returns-2
 returns-2 c =
@@ -52,7 +52,7 @@ returns-2 c =
     let r = reception k in
     let short = rw (at-if2 .before .at-most-six .ensures) at (at-if2 .if2 .taken) in
     let e = followed-short (r .length) (r .taken) (r .last) (start k .args .from) (start k .args .number) (count k) (start k .args .stamp) (k .if1 .left) short in
-    (c .leave2 .ensures (Refused _) (c .before .told2 .ensures) ∙ ap stepTold (sym e), unwritten _ _ _ _ e)
+    (leaving-told (Refused _) (c .leave2 .ensures) (c .before .told2 .ensures) ∙ ap stepTold (sym e), unwritten _ _ _ _ e)
 
 returns-3 : tie.Need-returns-3
 returns-3 c =
@@ -61,7 +61,7 @@ returns-3 c =
     let r = reception k in
     let another = rw (add-one (r .taken)) at (c .before .before .if3 .taken) in
     let e = followed-wrong (r .length) (r .taken) (r .last) (start k .args .from) (start k .args .number) (count k) (start k .args .stamp) (k .if1 .left) (enough l) another in
-    (c .close .ensures (Refused _) (c .before .told3 .ensures) ∙ ap stepTold (sym e), unclosed _ _ _ e)
+    (closing-told (Refused _) (c .close .ensures) (c .before .told3 .ensures) ∙ ap stepTold (sym e), unclosed _ _ _ e)
 
 returns-4 : tie.Need-returns-4
 returns-4 c =
@@ -72,7 +72,7 @@ returns-4 c =
     let r = reception k in
     let late = rw (at-if4 .before .gap .ensures) at (at-if4 .if4 .taken) in
     let e = followed-late (r .length) (r .taken) (r .last) (start k .args .from) (start k .args .number) (count k) (start k .args .stamp) (k .if1 .left) (enough l) (next n) late in
-    (c .close2 .ensures (Refused _) (c .before .told4 .ensures) ∙ ap stepTold (sym e), unclosed _ _ _ e)
+    (closing-told (Refused _) (c .close2 .ensures) (c .before .told4 .ensures) ∙ ap stepTold (sym e), unclosed _ _ _ e)
 
 take-requires : tie.Need-take-requires
 unfolding leftOf doneOf

@@ -3,6 +3,7 @@ use native.Mathlib.Omega.{arith}
 use borrow.Author.Needs.{needs}
 use Rattle.receiver.specs.declared.outcome.Outcome.the-variants.{Opened}
 use Rattle.receiver.specs.Steps.{stepTold, leaving, opened, writtenBy}
+use Rattle.receiver.proofs.LawsSteps.{leaving-told}
 use Rattle.receiver.proofs.steps.open_anew.Statement.{statement}
 use Rattle.receiver.proofs.steps.open_anew.Tie as tie
 
@@ -10,7 +11,7 @@ returns : tie.Need-returns
 unfolding stepTold leaving opened writtenBy
 returns c =
     let at-store = c .before .before .before .before in
-    (c .leave .ensures (Opened _) (c .before .told .ensures), rw (at-store .before .region .ensures .0) at (at-store .store .ensures))
+    (leaving-told (Opened _) (c .leave .ensures) (c .before .told .ensures), rw (at-store .before .region .ensures .0) at (at-store .store .ensures))
 
 pub open-anew-spec : {M : Type 1} → statement M
 open-anew-spec =

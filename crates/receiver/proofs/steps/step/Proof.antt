@@ -8,7 +8,7 @@ use Rattle.receiver.specs.declared.frame.Judged.{Judged}
 use Rattle.receiver.specs.declared.outcome.Outcome.the-variants.{Refused, Single, OverLong}
 use Rattle.receiver.specs.declared.steps.StepTold.{StepTold}
 use Rattle.receiver.specs.Steps.{Step, stepTold, stepOf, writtenBy}
-use Rattle.receiver.proofs.LawsSteps.{unwritten, unclosed}
+use Rattle.receiver.proofs.LawsSteps.{unwritten, unclosed, leaving-told, closing-told}
 use Rattle.receiver.proofs.steps.step.Statement.{statement}
 use Rattle.receiver.proofs.steps.step.Tie as tie
 
@@ -32,7 +32,7 @@ returns : tie.Need-returns
 unfolding stepOf
 returns c =
     let s = c .before .before .before .before .before .before .before in
-    so s (c .before .before .before .judged .given .1) _ _ (c .leave .ensures (Refused _) (c .before .told .ensures), unwritten _ _ _ _ refl)
+    so s (c .before .before .before .judged .given .1) _ _ (leaving-told (Refused _) (c .leave .ensures) (c .before .told .ensures), unwritten _ _ _ _ refl)
 
 returns-2 : tie.Need-returns-2
 unfolding stepOf
@@ -40,7 +40,7 @@ returns-2 c =
     let at-behind-single = c .before .before in
     let s = at-behind-single .before .before .before .before .before .before in
     so s (at-behind-single .before .before .judged2 .given .1) _ _
-    (rw (at-behind-single .behind-single .ensures) at (c .leave2 .ensures (Single _ _ _) (c .before .told2 .ensures)), unwritten _ _ _ _ refl)
+    (rw (at-behind-single .behind-single .ensures) at (leaving-told (Single _ _ _) (c .leave2 .ensures) (c .before .told2 .ensures)), unwritten _ _ _ _ refl)
 
 returns-3 : tie.Need-returns-3
 unfolding stepOf
@@ -53,7 +53,7 @@ returns-4 : tie.Need-returns-4
 unfolding stepOf
 returns-4 c =
     let s = c .before .before .before .before .before .before .before in
-    so s (c .before .before .before .judged4 .given .1) _ _ (c .close .ensures (OverLong _) (c .before .told3 .ensures), unclosed _ _ _ refl)
+    so s (c .before .before .before .judged4 .given .1) _ _ (closing-told (OverLong _) (c .close .ensures) (c .before .told3 .ensures), unclosed _ _ _ refl)
 
 returns-5 : tie.Need-returns-5
 unfolding stepOf

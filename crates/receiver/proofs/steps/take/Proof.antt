@@ -12,6 +12,7 @@ use Rattle.receiver.specs.Receptions.{closed, openWith, regionAt}
 use Rattle.receiver.specs.Steps.{Step, stepTold, doneOf, leftOf, takenStep, writtenBy, closing, leaving}
 use Rattle.receiver.proofs.LawsRules.{open-facts}
 use Rattle.receiver.proofs.LawsLentRules.{length-byte}
+use Rattle.receiver.proofs.LawsSteps.{leaving-told, closing-told}
 use Rattle.receiver.proofs.steps.take.Statement.{statement}
 use Rattle.receiver.proofs.steps.take.Tie as tie
 
@@ -50,7 +51,7 @@ returns c =
     let k = at-if1 .before in
     let a = start k .args in
     let e = six (a .reception) (a .from) (a .stamp) (rw (is-done k) at (at-if1 .if1 .taken)) in
-    (c .leave .ensures (Taken _) (c .before .told .ensures) ∙ ap stepTold e, rw (k .region .ensures .0, is-done k) at (at-store-six .store-six .ensures) ∙ ap (λ (s : Step). writtenBy (a .buffer .now) s (a .«data» .now)) e)
+    (leaving-told (Taken _) (c .leave .ensures) (c .before .told .ensures) ∙ ap stepTold e, rw (k .region .ensures .0, is-done k) at (at-store-six .store-six .ensures) ∙ ap (λ (s : Step). writtenBy (a .buffer .now) s (a .«data» .now)) e)
 
 store-requires : tie.Need-store-requires
 unfolding leftOf doneOf
@@ -64,7 +65,7 @@ returns-2 c =
     let k = at-if1 .before in
     let a = start k .args in
     let e = rest (a .reception) (a .from) (a .stamp) (rw (is-done k) at (at-if1 .if1 .left)) in
-    (c .close .ensures (Train _ _) (c .before .told2 .ensures) ∙ ap stepTold e, rw (k .region .ensures .0, is-done k) at (at-store .store .ensures) ∙ ap (λ (s : Step). writtenBy (a .buffer .now) s (a .«data» .now)) e)
+    (closing-told (Train _ _) (c .close .ensures) (c .before .told2 .ensures) ∙ ap stepTold e, rw (k .region .ensures .0, is-done k) at (at-store .store .ensures) ∙ ap (λ (s : Step). writtenBy (a .buffer .now) s (a .«data» .now)) e)
 
 pub take-spec : {M : Type 1} → statement M
 take-spec =
