@@ -2,7 +2,7 @@
 use mathlib.Core.Path.{_≡_, refl, sym, ap, ap₂, _∙_}
 use mathlib.Core.Bool.{Bool, true, false}
 use mathlib.Core.List.{List, [], _∷_, _++_}
-use Prim.Native.Nat.{ℕ}
+use Prim.Native.Nat.{ℕ, _≤_}
 use borrow.Author.Tests.{eqb-true, eqb-false}
 use lib.Dec.{eqb}
 use Rattle.identifiers.proofs.LawsChoice.{pick-true, pick-false}
@@ -10,14 +10,16 @@ use Rattle.readings.specs.Positions.{placeOf}
 use Rattle.readings.specs.declared.position.Position.{Position}
 use Rattle.receiver.specs.declared.outcome.Outcome.{Outcome}
 use Rattle.receiver.specs.declared.outcome.OutcomeTold.{OutcomeTold}
-use Rattle.receiver.specs.Nodes.{Node, freshNode}
+use Rattle.receiver.specs.Nodes.{Node, freshNode, freshOf, startOf}
 use Rattle.receiver.specs.Frames.{Frame}
 use Rattle.receiver.specs.Outcomes.{outcomeTold}
 use Rattle.receiver.specs.Receiving.{Received}
-use Rattle.receiver.specs.Lent.{nodeIn, bytesIn}
+use Rattle.receiver.specs.Lent.{numbersOf, nodeIn, bytesIn, stored}
 use Rattle.receiver.specs.Shown.{toldMessage}
+use Rattle.readings.proofs.LawsPositions.{trailer-back}
+use Rattle.receiver.proofs.LawsNodes.{made-at, start-fresh}
 use Rattle.receiver.proofs.LawsRow.{node-back}
-use Rattle.receiver.proofs.LawsLent.{lent-received, lent-buffer}
+use Rattle.receiver.proofs.LawsLent.{lent-received, lent-buffer, done-so}
 use Rattle.receiver.proofs.LawsBytesKept.{bytes-kept, fresh-bytes}
 use Rattle.trains.specs.Sequences.{Line, start, _▹_, size, Request, ReadAs}
 use Rattle.trains.specs.Runs.{Held, answer, next, offered, handed, requests}
@@ -51,6 +53,13 @@ module _ (at : ℕ) (o : Outcome) (bytes buffer : List ℕ) where
   unfolding gotFrom inNumbers
   got-is true e = pick-true _ _ e ∙ ap inNumbers (sym (hands-nothing at bytes buffer o (eqb-true _ _ e)))
   got-is false e = got-one (hands-one at bytes buffer o (eqb-false _ _ e)) e
+
+-- ---- the two makers leave a memory so, whatever stood there: `castanhiu_fresh` at a position 1 to 5, `castanhiu_start` at position 1
+pub fresh-starts : (numbers : List ℕ) (own : Position) (unit : ℕ) → 1 ≤ placeOf own → stored numbers (freshOf (placeOf own) unit) ≡ numbersOf (freshNode (placeOf own) unit)
+fresh-starts numbers own unit h = sym (done-so numbers (freshNode (placeOf own) unit) (made-at (placeOf own) unit (trailer-back own h)) refl .1)
+
+pub start-starts : (unit : ℕ) → numbersOf (startOf unit) ≡ numbersOf (freshNode 1 unit)
+start-starts unit = ap numbersOf (start-fresh unit)
 
 -- ---- the memory that is lent is the node that is held
 abbrev held : Memory → Held
