@@ -17,11 +17,12 @@ use text::put_decimal;
 // word of four letters, four blanks and a newline.
 pub const PAGE: usize = 88701;
 
-// A page has as many bytes as its type says. That is told of an array by value alone; the compiler leaves the copy out.
-pub fn measured(page: [u8; PAGE]) -> usize
-    ensures { λ r. ⌜ (r ≡ pageSize) × (length page ≡ pageSize) ⌝ }
+// A page has as many bytes as its type says.
+pub fn measured(page: &[u8; PAGE]) -> usize
+    ensures { λ r. ⌜ (r ≡ pageSize) × (length (now (page .entry)) ≡ pageSize) ⌝ }
 {
-    PAGE
+    let bytes: &[u8] = page;
+    bytes.len()
 }
 
 pub fn put_header(page: &mut [u8]) -> usize
@@ -59,7 +60,7 @@ pub fn put_refusal(page: &mut [u8], number: u8, offset: usize) -> usize
 pub fn print(input: &[u8], page: &mut [u8; PAGE]) -> usize
     ensures { λ r. ⌜ Puts (now (page .entry)) 0 (printed (now (input .entry))) r (now (page .exit)) ⌝ }
 {
-    measured(*page);
+    measured(page);
     match read_sheet(input) {
         SheetRead::Accepted => {
             let at = put_header(page);

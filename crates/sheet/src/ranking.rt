@@ -94,7 +94,7 @@ fn put_ranking(page: &mut [u8; PAGE], input: &[u8], mask: u8) -> usize
 pub fn rank(input: &[u8], mask: u8, page: &mut [u8; PAGE]) -> usize
     ensures { λ r. ⌜ Puts (now (page .entry)) 0 (rankedText (now (input .entry)) mask) r (now (page .exit)) ⌝ }
 {
-    measured(*page);
+    measured(page);
     match read_sheet(input) {
         SheetRead::Accepted => put_ranking(page, input, mask),
         SheetRead::Refused(why, offset) => put_refusal(page, why.number(), offset),
