@@ -29,8 +29,7 @@ fn asked(request: &[u8], j: usize) -> u16
     request[high] as u16 * 256 + request[low] as u16
 }
 
-// The place of an identifier, or held where it is not held. Two places are looked at in a turn: the second can be `held` itself, and is then the answer
-// either way.
+// The place of an identifier, or held where it is not held.
 fn place_among(identifiers: &[u16; 16], held: usize, identifier: u16) -> usize
     requires { ⌜ held ≤ 16 ⌝ }
     ensures { λ r. ⌜ r ≡ placeAmong (now (identifiers .entry)) held identifier ⌝ }
@@ -40,11 +39,7 @@ fn place_among(identifiers: &[u16; 16], held: usize, identifier: u16) -> usize
         if identifiers[k] == identifier {
             return k;
         }
-        let next = k + 1;
-        if identifiers[next] == identifier {
-            return next;
-        }
-        k = next + 1;
+        k += 1;
     }
     held
 }
