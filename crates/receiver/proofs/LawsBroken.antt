@@ -63,11 +63,11 @@ module _ (n : Node) (buffer : List ℕ) where
   which-fails true true true false a b c d e = other-room (eqb-false _ _ d)
   which-fails true true true true a b c d e = past-the-last (trailer-none _ (leb-true _ _ a) e)
 
-  not-sound : soundNode n ≡ false → ownOf n (length buffer) ≡ NoVehicle
+  pub not-sound : soundNode n ≡ false → ownOf n (length buffer) ≡ NoVehicle
   unfolding ownOf
   not-sound h = pick-false _ _ (sym (stop _ h))
 
-  no-own : Broken n buffer → ownOf n (length buffer) ≡ NoVehicle
+  pub no-own : Broken n buffer → ownOf n (length buffer) ≡ NoVehicle
   unfolding ownOf soundNode
   no-own (not-a-trailer h) = not-sound (sym (stop _ (lt-leb _ _ h)))
   no-own (past-the-last h) = not-sound (ap (both _) (sym (stop _ (lt-leb _ _ h))) ∙ both-false _)

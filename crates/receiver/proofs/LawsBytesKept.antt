@@ -8,7 +8,7 @@ use borrow.Author.Tests.{ltb-true, le-leb}
 use lib.ListN.{length}
 use Rattle.identifiers.specs.Choice.{both}
 use Rattle.identifiers.proofs.LawsChoice.{Holds, by-test, so, both-true}
-use Rattle.identifiers.proofs.LawsBelow.{all-at, all-each}
+use Rattle.identifiers.proofs.LawsBelow.{all-each}
 use Rattle.readings.specs.declared.position.Position.{Position}
 use Rattle.readings.specs.declared.position.Vehicle.{Vehicle}
 use Rattle.readings.specs.declared.position.Vehicle.the-variants.{At, NoVehicle}
@@ -27,7 +27,7 @@ use Rattle.receiver.proofs.LawsNodes.{fresh-closed}
 use Rattle.receiver.proofs.LawsRules.{set-cases}
 use Rattle.receiver.proofs.LawsSteps.{place-judged}
 use Rattle.receiver.proofs.LawsReceived.{ready, received-is, received-1}
-use Rattle.receiver.proofs.LawsLentRules.{length-byte}
+use Rattle.receiver.proofs.LawsLentRules.{bytes-at, length-byte}
 
 -- ---- one reception
 closed-bytes : inBytes closed ≡ true
@@ -76,14 +76,10 @@ step-keeps own unit n r bytes stamp (judged.Consecutive from number) h f = follo
 
 -- ---- the node
 module _ (n : Node) (h : bytesIn n ≡ true) where
-  each-bytes : (p : ℕ) → p < 6 → inBytes (receptionAt n p) ≡ true
-  unfolding bytesIn
-  each-bytes p l = all-at (λ (i : ℕ). inBytes (receptionAt n i)) p 6 (both-true _ _ h .1) l
-
   stored-keeps : (p : ℕ) (r : Reception) → inBytes r ≡ true → bytesIn (withReception n p r) ≡ true
   unfolding bytesIn withReception receptionAt
   stored-keeps p r g =
-      sym (so (both-true _ _ h .0) (sym (all-each _ 6 (λ i l. set-cases (λ (x : Reception). inBytes x ≡ true) (n .receptions) p i r closed g (each-bytes i l)))))
+      sym (so (both-true _ _ h .0) (sym (all-each _ 6 (λ i l. set-cases (λ (x : Reception). inBytes x ≡ true) (n .receptions) p i r closed g (bytes-at n h i l)))))
 
   module _ (buffer : List ℕ) (identifier : ℕ) (bytes : List ℕ) (stamp : ℕ) where
     at-vehicle : (v : Vehicle) → ownOf n (length buffer) ≡ v → bytesIn (receivedOf n buffer identifier bytes stamp .node) ≡ true
@@ -92,7 +88,7 @@ module _ (n : Node) (h : bytesIn n ≡ true) where
         let x = ready n (length buffer) own e in
         let j = judgedOf own (n .unit) identifier bytes in
         ap (λ (x : Received). bytesIn (x .node)) (received-is n buffer own (n .unit) (x .sound) (x .fits) (x .at) refl identifier bytes stamp)
-        ∙ stored-keeps (judgedPlace j) _ (step-keeps own (n .unit) identifier _ bytes stamp j (each-bytes (judgedPlace j) (place-judged j)) (fair own (n .unit) identifier bytes j refl))
+        ∙ stored-keeps (judgedPlace j) _ (step-keeps own (n .unit) identifier _ bytes stamp j (bytes-at n h (judgedPlace j) (place-judged j)) (fair own (n .unit) identifier bytes j refl))
 
     pub bytes-kept : bytesIn (receivedOf n buffer identifier bytes stamp .node) ≡ true
     bytes-kept = at-vehicle (ownOf n (length buffer)) refl

@@ -3,13 +3,12 @@ use mathlib.Core.Path.{_≡_, refl, sym, ap, _∙_}
 use mathlib.Core.Bool.{Bool, true, false}
 use mathlib.Core.List.{List}
 use Prim.Native.Nat.{ℕ}
-use borrow.Author.Tests.{ne-eqb}
 use lib.ListN.{length}
-use Rattle.identifiers.specs.Choice.{pick, both}
+use Rattle.identifiers.specs.Choice.{pick}
 use Rattle.identifiers.specs.Refusals.{refusal}
 use Rattle.identifiers.specs.declared.refusal.Refusal.{Refusal}
 use Rattle.identifiers.specs.declared.answer.Answer.the-variants as answer
-use Rattle.identifiers.proofs.LawsChoice.{pick-true, pick-false, both-false, stop, so}
+use Rattle.identifiers.proofs.LawsChoice.{pick-true, so}
 use Rattle.readings.specs.Positions.{trailerAt}
 use Rattle.readings.specs.declared.position.Position.{Position}
 use Rattle.readings.specs.declared.position.Vehicle.the-variants.{At, NoVehicle}
@@ -26,6 +25,7 @@ use Rattle.receiver.specs.Lent.{numbersOf, nodeIn, bytesIn, soundLent, l
 use Rattle.receiver.proofs.LawsNodes.{address-1}
 use Rattle.receiver.proofs.LawsReceived.{received-is, buffer-is, received-1, buffer-1}
 use Rattle.receiver.proofs.LawsRow.{numbers-back}
+use Rattle.receiver.proofs.LawsBroken.{not-sound}
 use Rattle.receiver.proofs.LawsLentRules.{lent-bytes, lent-sound}
 
 -- ---- a frame
@@ -61,13 +61,9 @@ module _ (n : Node) (buffer : List ℕ) (identifier : ℕ) (bytes : List ℕ) (s
     unfolding lentBuffer
     lent-kept = left (bytesIn n) none .1
 
-pub other-length : (n : Node) (room : ℕ) → (room ≡ 1536 → ⊥) → ownOf n room ≡ NoVehicle
-unfolding ownOf
-other-length n room h = pick-false _ _ (ap (both (soundNode n)) (ne-eqb room 1536 h) ∙ both-false (soundNode n))
-
-pub rules-broken : (n : Node) (room : ℕ) → soundLent n ≡ false → bytesIn n ≡ true → ownOf n room ≡ NoVehicle
-unfolding ownOf soundLent
-rules-broken n room h b = pick-false _ _ (sym (stop _ (so b refl ∙ h)))
+pub rules-broken : (n : Node) (buffer : List ℕ) → soundLent n ≡ false → bytesIn n ≡ true → ownOf n (length buffer) ≡ NoVehicle
+unfolding soundLent
+rules-broken n buffer h b = not-sound n buffer (so b refl ∙ h)
 
 -- ---- what `receive` answers and leaves
 module _ (numbers buffer : List ℕ) (identifier : ℕ) (bytes : List ℕ) (stamp : ℕ) where

@@ -65,9 +65,10 @@ module _ (n : Node) where
     unfolding bytesIn
     unit-byte = let e : n .unit ≤ 255 = leb-true _ _ (both-true _ _ lent-bytes .0) in omega arith
 
-    pub bytes-at : (p : ℕ) → p < 6 → inBytes (receptionAt n p) ≡ true
-    unfolding bytesIn
-    bytes-at p l = all-at (λ (i : ℕ). inBytes (receptionAt n i)) p 6 (both-true _ _ lent-bytes .1) l
+  -- of each reception, where all are bytes
+  pub bytes-at : bytesIn n ≡ true → (p : ℕ) → p < 6 → inBytes (receptionAt n p) ≡ true
+  unfolding bytesIn
+  bytes-at h p l = all-at (λ (i : ℕ). inBytes (receptionAt n i)) p 6 (both-true _ _ h .1) l
 
 pub length-byte : (r : Reception) → inBytes r ≡ true → r .length ≤ 255
 unfolding inBytes

@@ -15,11 +15,11 @@ pub mod LawsSteps
 pub mod LawsGiven
 pub mod LawsOthers
 pub mod LawsReceived
+pub mod EachRefusal
+pub mod LawsBroken
 pub mod LawsLentRules
 pub mod LawsLent
 pub mod LawsBytesKept
-pub mod EachRefusal
-pub mod LawsBroken
 pub mod LawsShown
 pub mod OneFrame
 pub mod LentFrame

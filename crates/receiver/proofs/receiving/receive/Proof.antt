@@ -5,7 +5,6 @@ use Prim.Native.Nat.{ℕ}
 use native.Mathlib.Omega.{arith}
 use borrow.Author.Needs.{needs}
 use borrow.Author.Tests.{not-true, not-false}
-use lib.ListN.{length}
 use Rattle.readings.specs.declared.position.Position.{Position}
 use Rattle.receiver.specs.declared.frame.Judged.the-variants.{First}
 use Rattle.receiver.specs.Nodes.{Node}
@@ -14,8 +13,10 @@ use Rattle.receiver.specs.Lent.{nodeIn, soundLent}
 use Rattle.receiver.proofs.LawsFrames.{fair}
 use Rattle.receiver.proofs.LawsRules.{sound-at}
 use Rattle.receiver.proofs.LawsReceived.{own-is}
-use Rattle.receiver.proofs.LawsLentRules.{lent-sound, own-byte, unit-byte, bytes-at}
-use Rattle.receiver.proofs.LawsLent.{other-length, rules-broken, refused-so, judged-so}
+use Rattle.receiver.specs.Names.{other-room}
+use Rattle.receiver.proofs.LawsBroken.{no-own}
+use Rattle.receiver.proofs.LawsLentRules.{lent-bytes, lent-sound, own-byte, unit-byte, bytes-at}
+use Rattle.receiver.proofs.LawsLent.{rules-broken, refused-so, judged-so}
 use Rattle.receiver.proofs.receiving.receive.Statement.{statement}
 use Rattle.receiver.proofs.receiving.receive.Tie as tie
 
@@ -23,7 +24,7 @@ returns : tie.Need-returns
 returns c =
     let at-count = c .before .before in
     let a = at-count .before .before .before .before .args in
-    refused-so (a .node .now) (a .buffer .now) (a .identifier) (a .«data» .now) (a .stamp) (at-count .count .ensures .1) (λ b. other-length (nodeIn (a .node .now)) (length (a .buffer .now)) (c .before .if1 .taken)) (c .told .ensures)
+    refused-so (a .node .now) (a .buffer .now) (a .identifier) (a .«data» .now) (a .stamp) (at-count .count .ensures .1) (λ b. no-own (nodeIn (a .node .now)) (a .buffer .now) (other-room (c .before .if1 .taken))) (c .told .ensures)
 
 returns-2 : tie.Need-returns-2
 returns-2 c =
@@ -31,7 +32,7 @@ returns-2 c =
     let at-count = at-sound .before .before .before in
     let a = at-count .before .before .before .before .args in
     refused-so (a .node .now) (a .buffer .now) (a .identifier) (a .«data» .now) (a .stamp) (at-count .count .ensures .1)
-    (rules-broken (nodeIn (a .node .now)) (length (a .buffer .now)) (sym (at-sound .is-sound .ensures) ∙ not-true _ (c .before .if2 .taken))) (c .told2 .ensures)
+    (rules-broken (nodeIn (a .node .now)) (a .buffer .now) (sym (at-sound .is-sound .ensures) ∙ not-true _ (c .before .if2 .taken))) (c .told2 .ensures)
 
 -- ---- behind the tests of the buffer's length and of the node
 abbrev at-count : tie.Else2 → tie.After-count
@@ -75,7 +76,7 @@ step-requires c κs =
     let k = is-sound at-judge in
     let p = at-place .judged-place .result in
     let fits = at-place .judged-place .ensures .1 in (
-      rw (c .reception-of .ensures) (bytes-at (node k) (sound k) p fits),
+      rw (c .reception-of .ensures) (bytes-at (node k) (lent-bytes _ (sound k)) p fits),
       rw (c .reception-of .ensures) (sound-at (node k) p (lent-sound _ (sound k)) fits),
       k .before .before .before .if1 .left,
       λ (q : Position) (L : ℕ) (e : (at-judge .judge .result) ≡ First q L). fair _ _ _ _ (First q L) (sym (at-judge .judge .ensures) ∙ e) .1 .room,
