@@ -3,6 +3,7 @@
 #     compiled PROGRAM FLAGS.. FILES..    writes PROGRAM, for x86-64
 #     running PROGRAM ARGUMENTS..         runs it, behind the words of `runner`
 #     own PROGRAM FLAGS.. FILES..         writes PROGRAM, for the machine itself; fails where `has_own` does
+#     sizes ARCHIVE                       its bytes of code, of constants (on Arm with the index for unwinding), of data and of zeroed data
 #
 # The archive that rt writes is for x86-64. There the machine's own `cc` compiles; elsewhere, and where KIT=1 is set, the kit's clang
 # does, with the C library that the kit brings, and on another processor the kit's emulator runs the program.
@@ -60,4 +61,14 @@ own() {
     shift
     # shellcheck disable=SC2086
     has_own && ${CC:-cc} $flags "$@" -o "$program"
+}
+
+sizes() {
+    if ! command -v size >/dev/null; then echo 'not measured: size is missing'; return; fi
+    size -A "$1" | awk '
+        /^\.text/ { code += $2 }
+        /^\.s?rodata/ || /^\.ARM\.exidx/ { constants += $2 }
+        /^\.s?data/ { data += $2 }
+        /^\.s?bss/ { zeroed += $2 }
+        END { printf "%6d %5d %3d %3d\n", code, constants, data, zeroed }'
 }

@@ -1,5 +1,6 @@
 -- The crate's laws, which belong to no one function.
 pub mod LawsPositions
+pub mod LawsFormula
 pub mod LawsRoutes
 pub mod LawsFractions
 pub mod LawsWholes

@@ -36,17 +36,12 @@ impl Position {
 
     pub const START: Position = Position::One;
 
-    const ZERO: u8 = 0xEB;
+    // The address of the towing vehicle; a trailer's is BASE less STEP for each place.
+    const TOWING: u8 = 235;
 
-    const ONE: u8 = 0xC9;
+    const BASE: u8 = 209;
 
-    const TWO: u8 = 0xC1;
-
-    const THREE: u8 = 0xB9;
-
-    const FOUR: u8 = 0xB1;
-
-    const FIVE: u8 = 0xA9;
+    const STEP: u8 = 8;
 
     // Where a trailer starts.
     pub fn start() -> Position
@@ -58,28 +53,27 @@ impl Position {
     pub fn of_address(address: u8) -> Vehicle
         ensures { λ r. ⌜ r ≡ positionOf address ⌝ }
     {
-        match address {
-            Position::ZERO => Vehicle::At(Position::Zero),
-            Position::ONE => Vehicle::At(Position::One),
-            Position::TWO => Vehicle::At(Position::Two),
-            Position::THREE => Vehicle::At(Position::Three),
-            Position::FOUR => Vehicle::At(Position::Four),
-            Position::FIVE => Vehicle::At(Position::Five),
-            _ => Vehicle::NoVehicle,
+        if address == Position::TOWING {
+            return Vehicle::At(Position::Zero);
         }
+        if Position::BASE < address {
+            return Vehicle::NoVehicle;
+        }
+        let below = Position::BASE - address;
+        if below % Position::STEP != 0 {
+            return Vehicle::NoVehicle;
+        }
+        Position::trailer(below / Position::STEP)
     }
 
     pub fn address(self) -> u8
         ensures { λ r. ⌜ r ≡ addressOf self ⌝ }
     {
-        match self {
-            Position::Zero => Position::ZERO,
-            Position::One => Position::ONE,
-            Position::Two => Position::TWO,
-            Position::Three => Position::THREE,
-            Position::Four => Position::FOUR,
-            Position::Five => Position::FIVE,
+        let place = self.place();
+        if place == 0 {
+            return Position::TOWING;
         }
+        Position::BASE - Position::STEP * place
     }
 
     // The position of a number 0 to 5.
@@ -123,14 +117,7 @@ impl Position {
     pub fn successor(self) -> Vehicle
         ensures { λ r. ⌜ r ≡ successorOf self ⌝ }
     {
-        match self {
-            Position::Zero => Vehicle::At(Position::One),
-            Position::One => Vehicle::At(Position::Two),
-            Position::Two => Vehicle::At(Position::Three),
-            Position::Three => Vehicle::At(Position::Four),
-            Position::Four => Vehicle::At(Position::Five),
-            Position::Five => Vehicle::NoVehicle,
-        }
+        Position::at(self.place() + 1)
     }
 
     pub fn predecessor(self) -> Vehicle

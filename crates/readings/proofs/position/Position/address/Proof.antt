@@ -1,24 +1,28 @@
--- `Position::address` meets its contract: each arm has what the definition computes at its case.
-use mathlib.Core.Path.{sym, ap}
-use borrow.Author.Needs.{needs}
-use Rattle.readings.specs.Positions.{addressOf, addresses}
+-- `Position::address` meets its contract: the towing vehicle's address, and the formula, are the table's.
+use mathlib.Core.Path.{_≡_, sym, ap, _∙_}
+use Prim.Native.Nat.{_≤_}
+use native.Mathlib.Omega.{arith}
+use Rattle.readings.specs.Positions.{placeOf, addressOf}
+use Rattle.readings.specs.declared.position.Position.the-variants.{Zero}
+use Rattle.readings.proofs.LawsPositions.{place-below, places-differ}
+use Rattle.readings.proofs.LawsFormula.{towing-address, address-formula}
 use Rattle.readings.proofs.position.Position.address.Statement.{statement}
 use Rattle.readings.proofs.position.Position.address.Tie as tie
 
+returns : tie.Need-returns
+returns c = sym (ap addressOf (places-differ _ Zero (sym (c .before .place .ensures) ∙ c .if1 .taken)) ∙ towing-address)
+
+mul-result : tie.Need-mul-result
+mul-result c = omega (arith, c .before .place .ensures, place-below (c .before .before .args .self))
+
+sub-result : tie.Need-sub-result
+sub-result c = omega (arith, c .before .place .ensures, place-below (c .before .before .args .self))
+
+returns-2 : tie.Need-returns-2
+returns-2 c =
+    let self = c .before .before .args .self in
+    let some : 1 ≤ placeOf self = omega (arith, c .before .place .ensures, c .if1 .left) in
+    omega (arith, c .before .place .ensures, address-formula self some)
+
 pub address-spec : {M : Type 1} → statement M
-unfolding addressOf addresses
-address-spec =
-    tie.close
-    (tie.spec
-    (λ c. search needs)
-    (λ c. search needs)
-    (λ c. search needs)
-    (λ c. search needs)
-    (λ c. search needs)
-    (λ c. search needs)
-    (λ c. ap addressOf (sym (c .enum-told .given .1)))
-    (λ c. ap addressOf (sym (c .enum-told2 .given .1)))
-    (λ c. ap addressOf (sym (c .enum-told3 .given .1)))
-    (λ c. ap addressOf (sym (c .enum-told4 .given .1)))
-    (λ c. ap addressOf (sym (c .enum-told5 .given .1)))
-    (λ c. ap addressOf (sym (c .enum-told6 .given .1))))
+address-spec = tie.close (tie.spec (λ c κs. tt) returns mul-result sub-result returns-2)

@@ -1,29 +1,30 @@
--- `Position::of_address` meets its contract: each arm's address is the table's, and past the six there is no vehicle.
-use mathlib.Core.Path.{refl, sym, ap}
-use borrow.Author.Tests.{ne-eqb}
-use Rattle.identifiers.specs.Choice.{pick}
-use Rattle.identifiers.proofs.LawsChoice.{passed}
-use Rattle.readings.specs.Positions.{addresses, addressOf, positions, positionAmong, positionOf}
+-- `Position::of_address` meets its contract: the towing vehicle's address, and those of the formula, are the table's.
+use mathlib.Core.Path.{_≡_, sym, ap, _∙_}
+use Prim.Native.Nat.{ℕ, _+_, _*_, _-_, _/_}
+use native.Mathlib.Omega.{arith}
+use Rattle.readings.specs.Positions.{positionOf}
+use Rattle.readings.proofs.LawsFormula.{towing-reads, formula-only, formula-reads}
 use Rattle.readings.proofs.position.Position.of_address.Statement.{statement}
 use Rattle.readings.proofs.position.Position.of_address.Tie as tie
 
-returns-7 : tie.Need-returns-7
-unfolding positionOf positionAmong positions addressOf addresses
-returns-7 c =
-    let r = c .match .rest in
-    passed _ (ne-eqb _ _ (r .0 .0 .0 .0 .0 .1))
-    (passed _ (ne-eqb _ _ (r .0 .0 .0 .0 .1))
-    (passed _ (ne-eqb _ _ (r .0 .0 .0 .1)) (passed _ (ne-eqb _ _ (r .0 .0 .1)) (passed _ (ne-eqb _ _ (r .0 .1)) (passed _ (ne-eqb _ _ (r .1)) refl)))))
+returns : tie.Need-returns
+returns c = sym (ap positionOf (c .if1 .taken) ∙ towing-reads)
+
+returns-2 : tie.Need-returns-2
+returns-2 c =
+    let above = c .if2 .taken in
+    sym (formula-only _ (c .before .if1 .left) (λ n (e : c .before .before .args .address + 8 * n ≡ 209). omega (arith, above)))
+
+returns-3 : tie.Need-returns-3
+returns-3 c =
+    let a = c .before .before .before .args .address in
+    sym (formula-only a (c .before .before .if1 .left) (λ n (e : a + 8 * n ≡ 209). omega (arith, c .if3 .taken)))
+
+returns-4 : tie.Need-returns-4
+returns-4 c =
+    let a = c .before .before .before .before .args .address in
+    let whole : a + 8 * ((209 - a) / 8) ≡ 209 = omega (arith, c .before .if3 .left, c .before .before .if2 .left) in
+    c .trailer .ensures ∙ sym (formula-reads a _ whole)
 
 pub of-address-spec : {M : Type 1} → statement M
-unfolding positionOf positionAmong positions addressOf addresses pick
-of-address-spec =
-    tie.close
-    (tie.spec
-    (λ c. ap positionOf (sym (c .match .keys1)))
-    (λ c. ap positionOf (sym (c .match .keys2)))
-    (λ c. ap positionOf (sym (c .match .keys3)))
-    (λ c. ap positionOf (sym (c .match .keys4)))
-    (λ c. ap positionOf (sym (c .match .keys5)))
-    (λ c. ap positionOf (sym (c .match .keys6)))
-    returns-7)
+of-address-spec = tie.close (tie.spec returns returns-2 returns-3 (λ c κs. tt) returns-4)
