@@ -56,14 +56,17 @@ impl Position {
         if address == Position::TOWING {
             return Vehicle::At(Position::Zero);
         }
-        if Position::BASE < address {
+        if Position::One.address() < address {
+            return Vehicle::NoVehicle;
+        }
+        if address < Position::Five.address() {
             return Vehicle::NoVehicle;
         }
         let below = Position::BASE - address;
         if below % Position::STEP != 0 {
             return Vehicle::NoVehicle;
         }
-        Position::trailer(below / Position::STEP)
+        Position::at(below / Position::STEP)
     }
 
     pub fn address(self) -> u8

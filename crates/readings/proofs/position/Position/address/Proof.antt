@@ -1,5 +1,5 @@
 -- `Position::address` meets its contract: the towing vehicle's address, and the formula, are the table's.
-use mathlib.Core.Path.{_≡_, sym, ap, _∙_}
+use mathlib.Core.Path.{sym, ap, _∙_}
 use Prim.Native.Nat.{_≤_}
 use native.Mathlib.Omega.{arith}
 use Rattle.readings.specs.Positions.{placeOf, addressOf}

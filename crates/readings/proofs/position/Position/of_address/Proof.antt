@@ -1,9 +1,9 @@
--- `Position::of_address` meets its contract: the towing vehicle's address, and those of the formula, are the table's.
+-- `Position::of_address` meets its contract: what is neither 235 nor from 201 down to 169 by steps of 8 is no vehicle's.
 use mathlib.Core.Path.{_≡_, sym, ap, _∙_}
-use Prim.Native.Nat.{ℕ, _+_, _*_, _-_, _/_}
+use Prim.Native.Nat.{_+_, _-_, _*_, _/_, _≤_}
 use native.Mathlib.Omega.{arith}
 use Rattle.readings.specs.Positions.{positionOf}
-use Rattle.readings.proofs.LawsFormula.{towing-reads, formula-only, formula-reads}
+use Rattle.readings.proofs.LawsFormula.{first-address, last-address, towing-reads, formula-reads, others-none}
 use Rattle.readings.proofs.position.Position.of_address.Statement.{statement}
 use Rattle.readings.proofs.position.Position.of_address.Tie as tie
 
@@ -12,19 +12,46 @@ returns c = sym (ap positionOf (c .if1 .taken) ∙ towing-reads)
 
 returns-2 : tie.Need-returns-2
 returns-2 c =
-    let above = c .if2 .taken in
-    sym (formula-only _ (c .before .if1 .left) (λ n (e : c .before .before .args .address + 8 * n ≡ 209). omega (arith, above)))
+    let a = c .before .before .before .args .address in
+    sym (others-none a (c .before .before .if1 .left)
+    (λ n (some : 1 ≤ n) (most : n ≤ 5) (e : a + 8 * n ≡ 209). omega (arith, c .if2 .taken, c .before .address .ensures, first-address)))
 
 returns-3 : tie.Need-returns-3
 returns-3 c =
-    let a = c .before .before .before .args .address in
-    sym (formula-only a (c .before .before .if1 .left) (λ n (e : a + 8 * n ≡ 209). omega (arith, c .if3 .taken)))
+    let at-if1 = c .before .before .before .before in
+    let a = at-if1 .before .args .address in
+    sym (others-none a (at-if1 .if1 .left)
+    (λ n (some : 1 ≤ n) (most : n ≤ 5) (e : a + 8 * n ≡ 209). omega (arith, c .if3 .taken, c .before .address2 .ensures, last-address)))
+
+sub-below : tie.Need-sub-below
+sub-below c = omega (arith, c .before .before .if2 .left, c .before .before .before .address .ensures, first-address)
 
 returns-4 : tie.Need-returns-4
 returns-4 c =
-    let a = c .before .before .before .before .args .address in
-    let whole : a + 8 * ((209 - a) / 8) ≡ 209 = omega (arith, c .before .if3 .left, c .before .before .if2 .left) in
-    c .trailer .ensures ∙ sym (formula-reads a _ whole)
+    let at-if1 = c .before .before .before .before .before in
+    let a = at-if1 .before .args .address in
+    sym (others-none a (at-if1 .if1 .left) (λ n (some : 1 ≤ n) (most : n ≤ 5) (e : a + 8 * n ≡ 209). omega (arith, c .if4 .taken)))
+
+returns-5 : tie.Need-returns-5
+returns-5 c =
+    let at-if3 = c .before .before in
+    let at-if2 = at-if3 .before .before in
+    let a = at-if2 .before .before .before .args .address in
+    let high : 169 ≤ a = omega (arith, at-if3 .if3 .left, at-if3 .before .address2 .ensures, last-address) in
+    let low : a ≤ 201 = omega (arith, at-if2 .if2 .left, at-if2 .before .address .ensures, first-address) in
+    let whole : a + 8 * ((209 - a) / 8) ≡ 209 = omega (arith, c .before .if4 .left) in
+    c .at .ensures ∙ sym (formula-reads a _ (omega arith) (omega arith) whole)
 
 pub of-address-spec : {M : Type 1} → statement M
-of-address-spec = tie.close (tie.spec returns returns-2 returns-3 (λ c κs. tt) returns-4)
+of-address-spec =
+    tie.close
+    (tie.spec
+    returns
+    (λ c κs. tt)
+    returns-2
+    (λ c κs. tt)
+    returns-3
+    sub-below
+    returns-4
+    (λ c κs. tt)
+    returns-5)
