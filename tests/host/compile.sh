@@ -70,5 +70,5 @@ sizes() {
         /^\.s?rodata/ || /^\.ARM\.exidx/ { constants += $2 }
         /^\.s?data/ { data += $2 }
         /^\.s?bss/ { zeroed += $2 }
-        END { printf "%6d %5d %3d %3d\n", code, constants, data, zeroed }'
+        END { if (code > 0) printf "%6d %5d %3d %3d\n", code, constants, data, zeroed; else print "not measured" }'
 }
