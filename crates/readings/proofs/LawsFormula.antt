@@ -26,26 +26,10 @@ address-formula Three h = refl
 address-formula Four h = refl
 address-formula Five h = refl
 
--- the first trailer's and the last one's
-pub first-address : addressOf One ≡ 201
-first-address = address-formula One (omega arith)
-
-pub last-address : addressOf Five ≡ 169
-last-address = address-formula Five (omega arith)
-
--- ---- what an address is read as: the towing vehicle, a trailer by the formula, or no vehicle
+-- ---- what an address is read as
+-- 235 is the towing vehicle's
 pub towing-reads : positionOf 235 ≡ At Zero
 towing-reads = ap positionOf (sym towing-address) ∙ address-back Zero
-
-pub formula-reads : (a n : ℕ) → 1 ≤ n → n ≤ 5 → a + 8 * n ≡ 209 → positionOf a ≡ positionAt n
-formula-reads a n some most sum = go (positionAt n) refl
-  where
-    go : (v : Vehicle) → positionAt n ≡ v → positionOf a ≡ positionAt n
-    go (At q) e =
-        let place : placeOf q ≡ n = place-only n q e in
-        let own : a ≡ addressOf q = omega (arith, address-formula q (omega arith)) in
-        ap positionOf own ∙ address-back q ∙ sym e
-    go NoVehicle e = absurd (omega (arith, position-none n e))
 
 trailers-else : (p : Position) → addressOf p ≢ 235 → 1 ≤ placeOf p
 trailers-else Zero h = absurd (h towing-address)
@@ -55,6 +39,7 @@ trailers-else Three h = omega arith
 trailers-else Four h = omega arith
 trailers-else Five h = omega arith
 
+-- what is neither 235 nor 209 less 8n for an n from 1 to 5 is no vehicle's
 pub others-none : (a : ℕ) → a ≢ 235 → ((n : ℕ) → 1 ≤ n → n ≤ 5 → a + 8 * n ≢ 209) → positionOf a ≡ NoVehicle
 others-none a other none = go (positionOf a) refl
   where
@@ -65,6 +50,17 @@ others-none a other none = go (positionOf a) refl
         let most : placeOf p ≤ 5 = omega (arith, place-below p) in
         absurd (none (placeOf p) some most (omega (arith, address-formula p some)))
     go NoVehicle e = e
+
+-- 209 less 8n is that of the position n, past 5 of none
+pub formula-reads : (a n : ℕ) → 1 ≤ n → a + 8 * n ≡ 209 → positionOf a ≡ positionAt n
+formula-reads a n some sum = go (positionAt n) refl
+  where
+    go : (v : Vehicle) → positionAt n ≡ v → positionOf a ≡ positionAt n
+    go (At q) e =
+        let place : placeOf q ≡ n = place-only n q e in
+        let own : a ≡ addressOf q = omega (arith, address-formula q (omega arith)) in
+        ap positionOf own ∙ address-back q ∙ sym e
+    go NoVehicle e = others-none a (omega arith) (λ k (least : 1 ≤ k) (most : k ≤ 5) (h : a + 8 * k ≡ 209). omega (arith, position-none n e)) ∙ sym e
 
 -- worked by the table: before the first, between two, behind the last
 pub worked : (positionOf 209 ≡ NoVehicle) × (positionOf 200 ≡ NoVehicle) × (positionOf 161 ≡ NoVehicle)

@@ -56,7 +56,7 @@ impl Position {
         if address == Position::TOWING {
             return Vehicle::At(Position::Zero);
         }
-        if Position::One.address() < address {
+        if Position::BASE <= address {
             return Vehicle::NoVehicle;
         }
         if address < Position::Five.address() {
