@@ -9,12 +9,12 @@ use Rattle.readings.specs.declared.position.Position.the-variants.{Zero,
 use Rattle.readings.specs.declared.position.Vehicle.{Vehicle}
 use Rattle.readings.specs.declared.position.Vehicle.the-variants.{At, NoVehicle}
 use Rattle.readings.specs.Positions.{placeOf, addresses, addressOf, positions, positionAmong, positionOf, positionAt}
-use Rattle.readings.proofs.LawsPositions.{address-back, address-only, place-below, place-only, position-none}
+use Rattle.readings.proofs.LawsPositions.{address-back, address-only, place-below, places-differ, place-only, position-none}
 
 -- "position 0 keeps 235"
-pub towing-address : addressOf Zero ≡ 235
+pub towing-address : (p : Position) → placeOf p ≡ 0 → addressOf p ≡ 235
 unfolding addressOf addresses
-towing-address = refl
+towing-address p towing = ap addressOf (places-differ p Zero towing)
 
 -- "Position p from 1 to 5 has address 209 minus 8p"
 pub address-formula : (p : Position) → 1 ≤ placeOf p → addressOf p ≡ 209 - 8 * placeOf p
@@ -29,15 +29,7 @@ address-formula Five h = refl
 -- ---- what an address is read as
 -- 235 is the towing vehicle's
 pub towing-reads : positionOf 235 ≡ At Zero
-towing-reads = ap positionOf (sym towing-address) ∙ address-back Zero
-
-trailers-else : (p : Position) → addressOf p ≢ 235 → 1 ≤ placeOf p
-trailers-else Zero h = absurd (h towing-address)
-trailers-else One h = omega arith
-trailers-else Two h = omega arith
-trailers-else Three h = omega arith
-trailers-else Four h = omega arith
-trailers-else Five h = omega arith
+towing-reads = ap positionOf (sym (towing-address Zero refl)) ∙ address-back Zero
 
 -- what is neither 235 nor 209 less 8n for an n from 1 to 5 is no vehicle's
 pub others-none : (a : ℕ) → a ≢ 235 → ((n : ℕ) → 1 ≤ n → n ≤ 5 → a + 8 * n ≢ 209) → positionOf a ≡ NoVehicle
@@ -46,7 +38,8 @@ others-none a other none = go (positionOf a) refl
     go : (v : Vehicle) → positionOf a ≡ v → positionOf a ≡ NoVehicle
     go (At p) e =
         let own : a ≡ addressOf p = address-only a p e in
-        let some : 1 ≤ placeOf p = trailers-else p (λ (h : addressOf p ≡ 235). other (own ∙ h)) in
+        let trailer : placeOf p ≢ 0 = λ (towing : placeOf p ≡ 0). other (own ∙ towing-address p towing) in
+        let some : 1 ≤ placeOf p = omega arith in
         let most : placeOf p ≤ 5 = omega (arith, place-below p) in
         absurd (none (placeOf p) some most (omega (arith, address-formula p some)))
     go NoVehicle e = e

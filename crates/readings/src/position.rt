@@ -56,9 +56,10 @@ impl Position {
         if address == Position::TOWING {
             return Vehicle::At(Position::Zero);
         }
-        if Position::BASE <= address {
+        if Position::BASE - Position::STEP < address {
             return Vehicle::NoVehicle;
         }
+        // Changes no answer, and saves bytes: `at` has no place past 5.
         if address < Position::Five.address() {
             return Vehicle::NoVehicle;
         }

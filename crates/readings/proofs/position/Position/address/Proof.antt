@@ -1,16 +1,15 @@
 -- `Position::address` meets its contract: the towing vehicle's address, and the formula, are the table's.
-use mathlib.Core.Path.{sym, ap, _∙_}
+use mathlib.Core.Path.{sym, _∙_}
 use Prim.Native.Nat.{_≤_}
 use native.Mathlib.Omega.{arith}
-use Rattle.readings.specs.Positions.{placeOf, addressOf}
-use Rattle.readings.specs.declared.position.Position.the-variants.{Zero}
-use Rattle.readings.proofs.LawsPositions.{place-below, places-differ}
+use Rattle.readings.specs.Positions.{placeOf}
+use Rattle.readings.proofs.LawsPositions.{place-below}
 use Rattle.readings.proofs.LawsFormula.{towing-address, address-formula}
 use Rattle.readings.proofs.position.Position.address.Statement.{statement}
 use Rattle.readings.proofs.position.Position.address.Tie as tie
 
 returns : tie.Need-returns
-returns c = sym (ap addressOf (places-differ _ Zero (sym (c .before .place .ensures) ∙ c .if1 .taken)) ∙ towing-address)
+returns c = sym (towing-address _ (sym (c .before .place .ensures) ∙ c .if1 .taken))
 
 mul-result : tie.Need-mul-result
 mul-result c = omega (arith, c .before .place .ensures, place-below (c .before .before .args .self))

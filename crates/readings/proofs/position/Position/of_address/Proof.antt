@@ -33,7 +33,7 @@ returns-5 : tie.Need-returns-5
 returns-5 c =
     let at-if2 = c .before .before .before .before in
     let a = at-if2 .before .before .args .address in
-    let low : a < 209 = omega (arith, at-if2 .if2 .left) in
+    let low : a ≤ 201 = omega (arith, at-if2 .if2 .left) in
     let whole : a + 8 * ((209 - a) / 8) ≡ 209 = omega (arith, c .before .if4 .left) in
     c .at .ensures ∙ sym (formula-reads a _ (omega arith) whole)
 
@@ -42,6 +42,7 @@ of-address-spec =
     tie.close
     (tie.spec
     returns
+    (λ c. omega arith)
     returns-2
     (λ c κs. tt)
     returns-3
