@@ -18,7 +18,8 @@
 enum { CASTANHIU_BUFFER = 1536, CASTANHIU_RESPONSE = 255, CASTANHIU_MESSAGE = 255, CASTANHIU_PAGE = 88701 };
 enum { CASTANHIU_PREDECESSOR = 0, CASTANHIU_SUCCESSOR = 1 };                                         /* from a side */
 enum { CASTANHIU_NOWHERE = 0, CASTANHIU_TO_PREDECESSOR = 1, CASTANHIU_TO_SUCCESSOR = 2 };            /* sent on */
-enum { CASTANHIU_VALUE, CASTANHIU_RESERVED, CASTANHIU_ERROR, CASTANHIU_NOT_AVAILABLE, CASTANHIU_BEYOND_RANGE };
+enum { CASTANHIU_VALUE = 0, CASTANHIU_RESERVED = 1, CASTANHIU_ERROR = 2, CASTANHIU_NOT_AVAILABLE = 3,
+       CASTANHIU_BEYOND_RANGE = 4, CASTANHIU_INDICATOR = 5 };                                        /* a reading's outcome */
 enum { CASTANHIU_NOTHING = 0, CASTANHIU_SINGLE = 1, CASTANHIU_TRAIN = 2 };                           /* handed out */
 enum { CASTANHIU_NO_CONTROL = 0, CASTANHIU_CONTINUE = 1, CASTANHIU_OVERFLOW = 2 };                   /* control due */
 
@@ -120,7 +121,8 @@ castanhiu_position_answer castanhiu_position_after(uint8_t source);
 castanhiu_route_answer castanhiu_route(uint8_t side, uint8_t own, bool successor, uint32_t identifier,
                                        const uint8_t *data, size_t data_length);
 
-/* Reads a raw number of kind 0 to 7: a value exact in f32, and the same as a whole number of the kind's steps.
+/* Reads a raw number of kind 0 to 7: a value exact in f32, and the same as a whole number of the kind's steps. An indicator
+ * says something of its own parameter, as 251 of the gear, kind 0: park.
  * Refuses: 20 a kind over 7, a raw number past the kind's bytes.
  * Memory: none. */
 castanhiu_parameter_answer castanhiu_read_parameter(uint8_t kind, uint32_t raw);

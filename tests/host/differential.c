@@ -209,16 +209,18 @@ static void vehicles(unsigned long count)
 
 static void readings(unsigned long count)
 {
+    unsigned long outcomes[6] = {0};
     begin("read_parameter");
     while (cases < count) {
         const uint8_t kind = (uint8_t)(one_in(12) ? OF(8, 9, 200, 255, any() & 0xFF) : below(8));
-        const uint32_t raw = one_in(4)   ? OF(0, 1, 124, 125, 126, 127, 249, 250, 251, 253, 254, 255, 256, 8735, 8736, 64255, 64256,
-                                              65023, 65024, 65279, 65280, 65535, 65536, 0xFFFFFFFF)
+        const uint32_t raw = one_in(4)   ? OF(0, 1, 124, 125, 126, 127, 249, 250, 251, 252, 253, 254, 255, 256, 8735, 8736, 64255,
+                                              64256, 64511, 64512, 65023, 65024, 65279, 65280, 65535, 65536, 0xFFFFFFFF)
                              : one_in(8) ? any()
                              : kind < 4  ? below(257)
                                          : below(65537);
         const castanhiu_parameter_answer a = castanhiu_read_parameter(kind, raw);
         const model_reading m = model_read(kind, raw);
+        outcomes[m.outcome] += m.refusal == 0;
         SAME(a.refusal, m.refusal);
         SAME(a.outcome, m.outcome);
         SAME_BYTES(&a.value, &m.value, sizeof(float));
@@ -226,6 +228,9 @@ static void readings(unsigned long count)
         answered(m.refusal);
     }
     end();
+    printf("    of them %lu values, %lu reserved, %lu errors, %lu not available, %lu beyond range, %lu indicators\n", outcomes[MODEL_VALUE],
+           outcomes[MODEL_RESERVED], outcomes[MODEL_ERROR], outcomes[MODEL_NOT_AVAILABLE], outcomes[MODEL_BEYOND_RANGE],
+           outcomes[MODEL_INDICATOR]);
 
     begin("read_two_bits");
     while (cases < count) {

@@ -93,7 +93,8 @@ enum {
     MODEL_RESERVED = 1,
     MODEL_ERROR = 2,
     MODEL_NOT_AVAILABLE = 3,
-    MODEL_BEYOND_RANGE = 4
+    MODEL_BEYOND_RANGE = 4,
+    MODEL_INDICATOR = 5
 };
 
 typedef struct {

@@ -306,6 +306,7 @@ static void test_readings(void)
             }
             const uint32_t unit = bytes[kind] == 1 ? 1 : 256;
             const uint8_t outcome = raw < 251 * unit ? (kind == 2 && raw >= 126 ? 4 : 0)
+                                    : raw < 252 * unit ? 5
                                     : raw < 254 * unit ? 1
                                     : raw < 255 * unit ? 2
                                                        : 3;
@@ -330,16 +331,19 @@ static void test_readings(void)
     CHECK(model_read(7, 8736).value == 0.0f);
     CHECK(model_read(7, 8735).value == -1.0f / 32.0f && model_read(7, 8735).whole == -1);
     CHECK(model_read(7, 64255).value == 55519.0f / 32.0f && model_read(7, 64255).whole == 55519);
-    CHECK(model_read(7, 64256).outcome == MODEL_RESERVED);
-    CHECK(model_read(7, 65023).outcome == MODEL_RESERVED);
+    CHECK(model_read(7, 64256).outcome == MODEL_INDICATOR && model_read(7, 64511).outcome == MODEL_INDICATOR);
+    CHECK(model_read(7, 64512).outcome == MODEL_RESERVED && model_read(7, 65023).outcome == MODEL_RESERVED);
     CHECK(model_read(7, 65024).outcome == MODEL_ERROR);
     CHECK(model_read(7, 65279).outcome == MODEL_ERROR);
     CHECK(model_read(7, 65280).outcome == MODEL_NOT_AVAILABLE);
     CHECK(model_read(2, 125).outcome == 0 && model_read(2, 125).value == 125.0f);
     CHECK(model_read(2, 126).outcome == 4 && model_read(2, 250).outcome == 4);
-    CHECK(model_read(2, 251).outcome == 1 && model_read(2, 253).outcome == 1);
+    CHECK(model_read(2, 251).outcome == 5 && model_read(2, 252).outcome == 1 && model_read(2, 253).outcome == 1);
     CHECK(model_read(2, 254).outcome == 2 && model_read(2, 255).outcome == 3);
-    CHECK(model_read(3, 250).value == 250.0f && model_read(3, 251).outcome == 1);
+    CHECK(model_read(3, 250).value == 250.0f && model_read(3, 251).outcome == 5);
+    CHECK(model_read(0, 250).outcome == 0 && model_read(0, 250).value == 125.0f);
+    CHECK(model_read(0, 251).outcome == 5 && model_read(0, 252).outcome == 1);
+    CHECK(model_read(0, 253).outcome == 1 && model_read(0, 254).outcome == 2);
     for (uint32_t raw = 0; raw < 300; raw++) {
         const model_two_bits r = model_read_two_bits(raw);
         CHECK(raw < 4 ? r.refusal == 0 && r.outcome == raw : r.refusal == 20 && r.outcome == 0);

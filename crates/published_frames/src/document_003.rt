@@ -103,7 +103,7 @@ pub fn kind(case: &[u8]) {
     if refused(told.refusal) {
         return;
     }
-    let words = b"value|reserved|error|not available|beyond range|";
+    let words = b"value|reserved|error|not available|beyond range|indicator|";
     say(part(words, b'|', told.outcome as usize));
     let given = part(case, b';', 2);
     let above = (value(part(given, b'-', 0), 0, 10) % 65536) as u16;

@@ -2,7 +2,7 @@
 // said, and the cases, whose words stand in it; data stands as it is in a frame, and has none of the marks | ; and /.
 use crate::walk;
 
-// The tables 1, 3, 7, 8, 4 and 5, the address that a trailer takes, and the data ranges of the eight kinds.
+// The tables 1, 3, 7, 8, 4, with the indicators of document 02, and 5, the address that a trailer takes, and the data ranges of the eight kinds.
 pub fn document_003() {
     walk(
         b"
@@ -12,18 +12,21 @@ taken;003 6.2: predecessor #: |EB|C9|C1|B9|B1|A9|FF|C8|
 written;003 table 7, #: |GPM 11;6;0;226;201;EB|GPM 21;6;0;225;235;C9|
 written;003 table 8, #: |GPM 12;6;0;254;93;EB|GPM 13;3;0;254;95;EB|GPM 14;6;0;254;97;EB|GPM 15;6;0;254;99;EB|GPM 16;6;0;254;101;EB|\
 MAM 11;6;0;253;221;EB|GPM 22;6;0;254;200;C9|EBS 23;3;0;254;96;C9|GPM 24;3;0;254;98;C9|GPM 25;6;0;254;100;C9|MAM 21;6;0;253;222;C9|
-kind;003 table 4, 1 byte, raw #: |0;3;0;1|250;3;250;1|251;3;0;1|253;3;0;1|254;3;0;1|255;3;0;1|256;3;0;1|
-kind;003 table 4, 2 bytes, raw #: |0;6;0;1|64255;6;64255;1|64256;6;0;1|65023;6;0;1|65024;6;0;1|65279;6;0;1|65280;6;0;1|65535;6;0;1|\
+kind;003 table 4, 1 byte, raw #: |0;3;0;1|250;3;250;1|252;3;0;1|253;3;0;1|254;3;0;1|255;3;0;1|256;3;0;1|
+kind;document 02, 1 byte, raw #: |251;3;0;1|
+kind;003 table 4, 2 bytes, raw #: |0;6;0;1|64255;6;64255;1|64512;6;0;1|65023;6;0;1|65024;6;0;1|65279;6;0;1|65280;6;0;1|65535;6;0;1|\
 65536;6;0;1|
+kind;document 02, 2 bytes, raw #: |64256;6;0;1|64511;6;0;1|
 bits;003 table 5, raw #: |0|1|2|3|4|
-kind;003 6.4.2.10, current gear, raw #: |0;0;-125;1|125;0;0;1|250;0;125;1|
+kind;003 6.4.2.10, current gear, raw #: |0;0;-125;1|125;0;0;1|250;0;125;1|251;0;0;1|252;0;0;1|253;0;0;1|254;0;0;1|
 kind;003 6.4.2.16, percent torque, raw #: |0;1;-125;1|250;1;125;1|
 kind;003 6.4.2.19, percent load, raw #: |0;2;0;1|125;2;125;1|126;2;0;1|250;2;0;1|251;2;0;1|
 kind;003 6.4.2.20, speed limit, raw #: |0;3;0;1|250;3;250;1|
 kind;003 6.4.2.14, vehicle speed, raw #: |0;4;0;256|64255;4;64255;256|
 kind;003 6.4.2.15, engine speed, raw #: |0;5;0;8|64255;5;64255;8|
 kind;003 6.4.2.18, reference torque, raw #: |0;6;0;1|64255;6;64255;1|
-kind;003 6.4.2.55, ambient temperature, raw #: |0;7;-8736;32|8735;7;-1;32|8736;7;0;32|64255;7;55519;32|
+kind;003 6.4.2.55, ambient temperature, raw #: |0;7;-8736;32|8735;7;-1;32|8736;7;0;32|64255;7;55519;32|64256;7;0;32|64511;7;0;32|\
+64512;7;0;32|65023;7;0;32|65024;7;0;32|
 kind;no kind 8, raw #: |0;8;0;1|
 ",
     );

@@ -3,17 +3,16 @@ use mathlib.Core.Path.{_≡_, refl, sym, subst, _∙_}
 use mathlib.Core.List.{List, [], _∷_}
 use Prim.Native.Nat.{ℕ, zero, suc, _*_, _^_, _≤_, _<_}
 use native.Mathlib.Omega.{arith}
-use borrow.Author.Tests.{lt-ltb, le-ltb, le-leb, lt-leb, eq-eqb, ne-eqb, ltb-false}
-use lib.Dec.{T, leb, ltb, eqb, lit<, lit≤}
+use borrow.Author.Tests.{le-ltb}
+use lib.Dec.{T, leb, ltb, lit<, lit≤}
 use lib.IntN.{ℤ, pos, natAbs, subℕ}
 use lib.Ieee.{Float, binary32, toBits}
 use lib.ListN.{getD, List·getD-eq-default}
-use Rattle.identifiers.specs.Choice.{pick}
 use Rattle.identifiers.specs.Refusals.{refusal}
-use Rattle.identifiers.proofs.LawsChoice.{pick-true, pick-false, Holds, by-test}
+use Rattle.identifiers.proofs.LawsChoice.{pick-false, Holds, by-test}
 use Rattle.readings.specs.declared.kind.Kind.{Kind}
 use Rattle.readings.specs.declared.reading.Reading.{Reading}
-use Rattle.readings.specs.declared.reading.Reading.the-variants.{Value, Reserved, Error, NotAvailable, BeyondRange}
+use Rattle.readings.specs.declared.reading.Reading.the-variants.{Value, Reserved, Error, NotAvailable, BeyondRange, Indicator}
 use Rattle.readings.specs.declared.reading.Measured.{Measured}
 use Rattle.readings.specs.declared.reading.ParameterRead.{ParameterRead}
 use Rattle.readings.specs.declared.reading.ParameterRead.the-variants as parameter
@@ -21,8 +20,9 @@ use Rattle.readings.specs.declared.reading.TwoBits.the-variants as bits
 use Rattle.readings.specs.declared.reading.TwoBitsRead.the-variants as two
 use Rattle.readings.specs.Fractions.{fraction, Exact}
 use Rattle.readings.specs.Kinds.{kinds, kindOf, wholeOf, Sound}
-use Rattle.readings.specs.Readings.{withoutValue, valued, inRange, measuredBy, measuredAs, parameterOf, twoBitsOf, valueOf}
+use Rattle.readings.specs.Readings.{Says, says-value, says-beyond-range, says-indicator, says-reserved, says-error, says-not-available, says-20, withoutValue, valued, inRange, parameterOf, twoBitsOf, valueOf}
 use Rattle.readings.specs.Readings.{zero as +0}
+use Rattle.readings.proofs.LawsOutcomes.{says}
 use Rattle.readings.proofs.LawsFractions.{fraction-exact}
 use Rattle.readings.proofs.LawsWholes.{whole-is, size-sub}
 
@@ -46,41 +46,6 @@ kinds-sound =
     each-at Sound kinds _
     (by-tests _ 0 refl tt tt tt, (by-tests _ 0 refl tt tt tt, (by-tests _ 0 refl tt tt tt, (by-tests _ 0 refl tt tt tt, (by-tests _ 8 refl tt tt tt, (by-tests _ 3 refl tt tt tt, (by-tests _ 0 refl tt tt tt, (by-tests _ 5 refl tt tt tt, tt))))))))
     (by-tests _ 5 refl tt tt tt)
-
--- ---- the outcomes by the high byte, once for every width: one law a rung
-module _ (k : Kind) (raw high : ℕ) where
-  pub high-value : high ≤ 250 → measuredBy k raw high ≡ inRange k raw
-  unfolding measuredBy
-  high-value h = pick-true _ _ (le-leb _ _ h)
-
-  pub high-reserved : 250 < high → high ≤ 253 → measuredBy k raw high ≡ withoutValue Reserved
-  unfolding measuredBy
-  high-reserved h l = pick-false _ _ (lt-leb _ _ h) ∙ pick-true _ _ (le-leb _ _ l)
-
-  pub high-error : high ≡ 254 → measuredBy k raw high ≡ withoutValue Error
-  unfolding measuredBy
-  high-error h = pick-false _ _ (lt-leb high 250 (omega arith)) ∙ pick-false _ _ (lt-leb high 253 (omega arith)) ∙ pick-true _ _ (eq-eqb _ _ h)
-
-  above : 254 < high → measuredBy k raw high ≡ pick (eqb high 255) (withoutValue NotAvailable) (parameter.Refused (refusal 20))
-  unfolding measuredBy
-  above h =
-      pick-false _ _ (lt-leb high 250 (omega arith)) ∙ pick-false _ _ (lt-leb high 253 (omega arith)) ∙ pick-false _ _ (ne-eqb high 254 (λ (e : high ≡ 254). omega arith))
-
-  pub high-not-available : high ≡ 255 → measuredBy k raw high ≡ withoutValue NotAvailable
-  high-not-available h = above (omega arith) ∙ pick-true _ _ (eq-eqb _ _ h)
-
-  pub high-20 : 255 < high → measuredBy k raw high ≡ parameter.Refused (refusal 20)
-  high-20 h = above (omega arith) ∙ pick-false _ _ (ne-eqb high 255 (λ (e : high ≡ 255). omega arith))
-
--- "raw 126..250 beyond range" of percent load: past the last raw number in range
-pub beyond-range : (k : Kind) (raw : ℕ) → k .last < raw → inRange k raw ≡ withoutValue BeyondRange
-unfolding inRange
-beyond-range k raw h = pick-true _ _ (lt-ltb _ _ h)
-
--- 20 "kind over 7"
-pub kind-20 : (kind raw : ℕ) → 7 < kind → parameterOf kind raw ≡ parameter.Refused (refusal 20)
-unfolding parameterOf
-kind-20 kind raw h = pick-true _ _ (lt-ltb _ _ h)
 
 pub value-of : (k : Kind) (raw : ℕ) → raw ≤ k .last
     → inRange k raw ≡ parameter.Read (record { reading = Value (fraction (subℕ raw (k .below * k .divisor)) (k .divisor)); whole = subℕ raw (k .below * k .divisor) })
@@ -118,20 +83,21 @@ without-value-right : (k : Kind) (raw : ℕ) (r : Reading) → valueOf r ≡ +0 
 unfolding withoutValue
 without-value-right k raw r z n = record { holds = record { exact = λ x e. absurd (let f : _≡_ {A = ℕ} 0 1 = n x e in omega arith); other = λ _. (refl, z) } }
 
-measured-right : (k : Kind) → Sound k → (raw high : ℕ) → Holds (RightRead k raw) (measuredBy k raw high)
-unfolding measuredBy inRange
-measured-right k S raw high =
-    by-test _ (λ a. by-test _ (λ b. without-value-right k raw BeyondRange refl (λ x e. cc)) (λ b. valued-right k S raw (ltb-false _ _ b)))
-    (λ a. by-test _ (λ b. without-value-right k raw Reserved refl (λ x e. cc))
-    (λ b. by-test _ (λ d. without-value-right k raw Error refl (λ x e. cc))
-    (λ d. by-test _ (λ f. without-value-right k raw NotAvailable refl (λ x e. cc)) (λ f. record { holds = refl }))))
+said-right : (k : Kind) → Sound k → (raw : ℕ) (r : ParameterRead) → Says k raw r → Holds (RightRead k raw) r
+said-right k S raw r (says-value u h) = valued-right k S raw h
+said-right k S raw r (says-beyond-range u h) = without-value-right k raw BeyondRange refl (λ x e. cc)
+said-right k S raw r (says-indicator l u) = without-value-right k raw Indicator refl (λ x e. cc)
+said-right k S raw r (says-reserved l u) = without-value-right k raw Reserved refl (λ x e. cc)
+said-right k S raw r (says-error l u) = without-value-right k raw Error refl (λ x e. cc)
+said-right k S raw r (says-not-available l u) = without-value-right k raw NotAvailable refl (λ x e. cc)
+said-right k S raw r (says-20 l) = record { holds = refl }
 
 -- every reading of every kind
 pub readings-exact : (kind raw : ℕ) (m : Measured) → parameterOf kind raw ≡ parameter.Read m → Right (kindOf kind) raw m
-unfolding parameterOf measuredAs
+unfolding parameterOf
 readings-exact kind raw m e =
     let h : RightRead (kindOf kind) raw (parameterOf kind raw) =
-    by-test {P = RightRead (kindOf kind) raw} (ltb 7 kind) {x = parameter.Refused (refusal 20)} (λ a. record { holds = refl }) (λ a. measured-right (kindOf kind) (kinds-sound kind) raw _) .holds in
+    by-test {P = RightRead (kindOf kind) raw} (ltb 7 kind) {x = parameter.Refused (refusal 20)} (λ a. record { holds = refl }) (λ a. said-right (kindOf kind) (kinds-sound kind) raw _ (says (kindOf kind) raw)) .holds in
     rw e at h
 
 -- ---- two bits

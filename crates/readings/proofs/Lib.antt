@@ -4,4 +4,5 @@ pub mod LawsFormula
 pub mod LawsRoutes
 pub mod LawsFractions
 pub mod LawsWholes
+pub mod LawsOutcomes
 pub mod LawsReadings

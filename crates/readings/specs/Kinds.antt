@@ -31,6 +31,10 @@ kindOf k = getD kinds k (record { bytes = 2; divisor = 32; below = 273; last = 6
 unfoldable pub highByte : ℕ → ℕ → ℕ
 highByte bytes raw = pick (eqb bytes 1) raw (raw / 256)
 
+-- how many raw numbers have one high byte: of one byte 1, of two 256
+unfoldable pub span : ℕ → ℕ
+span bytes = pick (eqb bytes 1) 1 256
+
 -- "the raw number plus offset times divisor"
 unfoldable pub wholeOf : Kind → ℕ → ℤ
 wholeOf k raw = pos raw +ℤ negℤ (pos (k .below)) *ℤ pos (k .divisor)

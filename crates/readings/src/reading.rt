@@ -15,6 +15,7 @@ pub enum Reading {
     Error,
     NotAvailable,
     BeyondRange,
+    Indicator,
 }
 
 // The reading, and beside it the raw number plus offset times divisor: 0 where there is no value.
@@ -28,7 +29,8 @@ pub enum ParameterRead {
     Refused(Refusal),
 }
 
-// The same in numbers: the refusal, 0 for none; the outcome, 0 value, 1 reserved, 2 error, 3 not available, 4 beyond range; the value and the whole number.
+// The same in numbers: the refusal, 0 for none; the outcome, 0 value, 1 reserved, 2 error, 3 not available, 4 beyond range,
+// 5 indicator; the value and the whole number.
 #[repr(C)]
 pub struct ParameterReadTold {
     pub refusal: u8,
@@ -86,6 +88,9 @@ fn measure(kind: Kind, raw: u32) -> ParameterRead
     if high <= 250 {
         return in_range(kind, raw);
     }
+    if high == 251 {
+        return without_value(Reading::Indicator);
+    }
     if high <= 253 {
         return without_value(Reading::Reserved);
     }
@@ -131,6 +136,7 @@ impl Reading {
             Reading::Error => 2,
             Reading::NotAvailable => 3,
             Reading::BeyondRange => 4,
+            Reading::Indicator => 5,
         }
     }
 
@@ -143,6 +149,7 @@ impl Reading {
             Reading::Error => 0.0,
             Reading::NotAvailable => 0.0,
             Reading::BeyondRange => 0.0,
+            Reading::Indicator => 0.0,
         }
     }
 }
