@@ -223,6 +223,31 @@ static void cut_model(unsigned long rounds)
     }
 }
 
+/* ---- parameters read: of each kind 256 raw numbers, over all that its bytes hold ------------ */
+
+static uint32_t raw_number(unsigned kind, unsigned i)
+{
+    return kind < 4 ? i : 257 * i;
+}
+
+static void read_archive(unsigned long rounds)
+{
+    for (unsigned long r = 0; r < rounds; r++) {
+        for (unsigned i = 0; i < 8 * 256; i++) {
+            sink += castanhiu_read_parameter((uint8_t)(i % 8), raw_number(i % 8, i / 8)).outcome;
+        }
+    }
+}
+
+static void read_model(unsigned long rounds)
+{
+    for (unsigned long r = 0; r < rounds; r++) {
+        for (unsigned i = 0; i < 8 * 256; i++) {
+            sink += model_read(i % 8, raw_number(i % 8, i / 8)).outcome;
+        }
+    }
+}
+
 /* ---- a sheet, and the page of one mask ------------------------------------------------------ */
 
 static uint8_t input[65535];
@@ -320,6 +345,7 @@ static const work works[] = {
     {"serve-22-near-empty", 1, empty_22, serve_archive, serve_model},
     {"serve-14-near-empty", 1, empty_14, serve_archive, serve_model},
     {"cut", 43, nothing, cut_archive, cut_model},
+    {"read", 8 * 256, nothing, read_archive, read_model},
     {"sheet-full", 1, full_sheet, sheet_archive, sheet_model},
     {"sheet-falling", 1, falling_3855, sheet_archive, sheet_model},
     {"ranking-falling", 1, falling_3855, ranking_archive, ranking_model},
