@@ -1,8 +1,9 @@
 -- Which outcome a raw number has: by its high byte, one law a rung, and by itself, both ways; each law once over the width.
-use mathlib.Core.Path.{_≡_, sym, subst, _∙_}
+use mathlib.Core.Path.{_≡_, refl, sym, subst, _∙_}
 use mathlib.Core.Bool.{Bool, true, false}
 use mathlib.Core.Logic.{_↔_}
-use Prim.Native.Nat.{ℕ, suc, _*_, _/_, _≤_, _<_}
+use Prim.Native.Nat.{ℕ, suc, _*_, _/_, _≤_, _<_, suc-le-suc}
+use native.Mathlib.Nat.{div-one, div-lt-iff-lt-mul, le-div-iff-mul-le, le-of-suc-le-suc}
 use native.Mathlib.Omega.{arith}
 use borrow.Author.Tests.{lt-ltb, le-ltb, le-leb, lt-leb, eq-eqb, ne-eqb, leb-true, leb-false, ltb-true, ltb-false, eqb-true, eqb-false}
 use lib.Dec.{leb, eqb, lit<, lit≤}
@@ -56,46 +57,42 @@ pub kind-20 : (kind raw : ℕ) → 7 < kind → parameterOf kind raw ≡ paramet
 unfolding parameterOf
 kind-20 kind raw h = pick-true _ _ (lt-ltb _ _ h)
 
--- ---- which raw numbers say what, by one law over the width: the high byte is n or more where the raw number is n spans or more
-module _ (raw n : ℕ) where
-  up-to-span : (one : Bool) → pick one raw (raw / 256) ≤ n ↔ raw < suc n * pick one 1 256
-  unfolding pick
-  up-to-span true = (λ h. omega arith, λ h. omega arith)
-  up-to-span false = (λ h. omega arith, λ h. omega arith)
+-- ---- which raw numbers say what, by one law over the width: the high byte is the raw number over the span, which is not 0
+over-span : (raw : ℕ) (one : Bool) → (pick one raw (raw / 256) ≡ raw / pick one 1 256) × (0 < pick one 1 256)
+unfolding pick
+over-span raw true = (sym (div-one raw), lit< tt)
+over-span raw false = (refl, lit< tt)
 
-  from-span : (one : Bool) → n ≤ pick one raw (raw / 256) ↔ n * pick one 1 256 ≤ raw
-  unfolding pick
-  from-span true = (λ h. omega arith, λ h. omega arith)
-  from-span false = (λ h. omega arith, λ h. omega arith)
+pub high-over-span : (bytes raw : ℕ) → (highByte bytes raw ≡ raw / span bytes) × (0 < span bytes)
+unfolding highByte span
+high-over-span bytes raw = over-span raw (eqb bytes 1)
 
 module _ (k : Kind) (raw : ℕ) where
   abbrev high : ℕ
   high = highByte (k .bytes) raw
 
-  up-to : (n : ℕ) → high ≤ n ↔ raw < suc n * span (k .bytes)
-  unfolding highByte span
-  up-to n = up-to-span raw n (eqb (k .bytes) 1)
+  below : (n : ℕ) → high < n ↔ raw < n * span (k .bytes)
+  below n = let o = high-over-span (k .bytes) raw in rw (o .0) (div-lt-iff-lt-mul (o .1))
 
   from : (n : ℕ) → n ≤ high ↔ n * span (k .bytes) ≤ raw
-  unfolding highByte span
-  from n = from-span raw n (eqb (k .bytes) 1)
+  from n = let o = high-over-span (k .bytes) raw in rw (o .0) (le-div-iff-mul-le (o .1))
 
   is : (n : ℕ) → high ≡ n ↔ (n * span (k .bytes) ≤ raw) × (raw < suc n * span (k .bytes))
   is n = (
-    λ (e : high ≡ n). (from n .0 (omega arith), up-to n .0 (omega arith)),
-    λ b. let l : n ≤ high = from n .1 (b .0) in let u : high ≤ n = up-to n .1 (b .1) in omega arith,
+    λ (e : high ≡ n). (from n .0 (omega arith), below (suc n) .0 (omega arith)),
+    λ b. let l : n ≤ high = from n .1 (b .0) in let u : high < suc n = below (suc n) .1 (b .1) in omega arith,
   )
 
   pub says : Says k raw (measuredAs k raw)
   unfolding measuredAs measuredBy inRange
   says =
       by-test {P = Says k raw} _
-      (λ a. let u = up-to 250 .0 (leb-true _ _ a) in
+      (λ a. let u = below 251 .0 (suc-le-suc (leb-true _ _ a)) in
       by-test _ (λ b. record { holds = says-beyond-range u (ltb-true _ _ b) }) (λ b. record { holds = says-value u (ltb-false _ _ b) }))
       (λ a. by-test _ (λ b. let e = is 251 .0 (eqb-true _ _ b) in record { holds = says-indicator (e .0) (e .1) })
       (λ b. by-test _
       (λ c. let l : 250 < high = leb-false _ _ a in let m : high ≡ 251 → ⊥ = eqb-false _ _ b in
-      record { holds = says-reserved (from 252 .0 (omega arith)) (up-to 253 .0 (leb-true _ _ c)) })
+      record { holds = says-reserved (from 252 .0 (omega arith)) (below 254 .0 (suc-le-suc (leb-true _ _ c))) })
       (λ c. by-test _ (λ d. let e = is 254 .0 (eqb-true _ _ d) in record { holds = says-error (e .0) (e .1) })
       (λ d. by-test _ (λ f. let e = is 255 .0 (eqb-true _ _ f) in record { holds = says-not-available (e .0) (e .1) })
       (λ f. let l : 253 < high = leb-false _ _ c in let m : high ≡ 254 → ⊥ = eqb-false _ _ d in let o : high ≡ 255 → ⊥ = eqb-false _ _ f in
@@ -103,10 +100,10 @@ module _ (k : Kind) (raw : ℕ) where
 
   said : {r : ParameterRead} → Says k raw r → measuredAs k raw ≡ r
   unfolding measuredAs inRange
-  said (says-value u h) = high-value k raw high (up-to 250 .1 u) ∙ pick-false _ _ (le-ltb _ _ h)
-  said (says-beyond-range u h) = high-value k raw high (up-to 250 .1 u) ∙ beyond-range k raw h
+  said (says-value u h) = high-value k raw high (le-of-suc-le-suc (below 251 .1 u)) ∙ pick-false _ _ (le-ltb _ _ h)
+  said (says-beyond-range u h) = high-value k raw high (le-of-suc-le-suc (below 251 .1 u)) ∙ beyond-range k raw h
   said (says-indicator l u) = high-indicator k raw high (is 251 .1 (l, u))
-  said (says-reserved l u) = high-reserved k raw high (from 252 .1 l) (up-to 253 .1 u)
+  said (says-reserved l u) = high-reserved k raw high (from 252 .1 l) (le-of-suc-le-suc (below 254 .1 u))
   said (says-error l u) = high-error k raw high (is 254 .1 (l, u))
   said (says-not-available l u) = high-not-available k raw high (is 255 .1 (l, u))
   said (says-20 l) = high-20 k raw high (from 256 .1 l)
