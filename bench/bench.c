@@ -248,6 +248,54 @@ static void read_model(unsigned long rounds)
     }
 }
 
+/* ---- identifiers read and written back, frames routed --------------------------------------- */
+
+/* To each position from each of the six, a group message, a message to all, and one from no vehicle: R is 0. */
+static uint32_t number_at(unsigned i)
+{
+    static const uint8_t addresses[8] = {0xEB, 0xC9, 0xC1, 0xB9, 0xB1, 0xA9, 0xFF, 0xC8};
+    const uint32_t format = i % 64 < 56 ? 206 : 254;
+    return UINT32_C(6) << 26 | format << 16 | (uint32_t)addresses[i / 8 % 8] << 8 | addresses[i % 8];
+}
+
+static void identifier_archive(unsigned long rounds)
+{
+    for (unsigned long r = 0; r < rounds; r++) {
+        for (unsigned i = 0; i < 64; i++) {
+            sink += castanhiu_identifier_write(castanhiu_identifier_read(number_at(i)).fields).number;
+        }
+    }
+}
+
+static void identifier_model(unsigned long rounds)
+{
+    for (unsigned long r = 0; r < rounds; r++) {
+        for (unsigned i = 0; i < 64; i++) {
+            const model_identifier f = model_identifier_read(number_at(i));
+            sink += model_identifier_write(f.priority, f.reserved, f.data_page, f.format, f.specific, f.source).number;
+        }
+    }
+}
+
+/* From each side, at each position but the last. */
+static void route_archive(unsigned long rounds)
+{
+    for (unsigned long r = 0; r < rounds; r++) {
+        for (unsigned i = 0; i < 512; i++) {
+            sink += castanhiu_route((uint8_t)(i / 64 % 2), (uint8_t)(1 + i / 128), true, number_at(i), message, 8).onward;
+        }
+    }
+}
+
+static void route_model(unsigned long rounds)
+{
+    for (unsigned long r = 0; r < rounds; r++) {
+        for (unsigned i = 0; i < 512; i++) {
+            sink += model_route(i / 64 % 2, 1 + i / 128, 1, number_at(i), 8).sent_on;
+        }
+    }
+}
+
 /* ---- a sheet, and the page of one mask ------------------------------------------------------ */
 
 static uint8_t input[65535];
@@ -346,6 +394,8 @@ static const work works[] = {
     {"serve-14-near-empty", 1, empty_14, serve_archive, serve_model},
     {"cut", 43, nothing, cut_archive, cut_model},
     {"read", 8 * 256, nothing, read_archive, read_model},
+    {"identifier", 64, nothing, identifier_archive, identifier_model},
+    {"route", 512, nothing, route_archive, route_model},
     {"sheet-full", 1, full_sheet, sheet_archive, sheet_model},
     {"sheet-falling", 1, falling_3855, sheet_archive, sheet_model},
     {"ranking-falling", 1, falling_3855, ranking_archive, ranking_model},

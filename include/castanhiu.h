@@ -28,7 +28,7 @@ enum {
     CASTANHIU_RULES_BROKEN = 1,          /* node, record, own position, side or buffer against its rules */
     CASTANHIU_IDENTIFIER_TOO_LARGE = 2,  /* 2^29 or more */
     CASTANHIU_TOO_MANY_DATA_BYTES = 3,   /* more than 8 */
-    CASTANHIU_RESERVED_BIT_SET = 4,      /* R set */
+    CASTANHIU_RESERVED_BIT_SET = 4,      /* R set: not for a receiver */
     CASTANHIU_NOT_DIAGNOSTIC = 5,        /* by DP or PF */
     CASTANHIU_NO_OTHER_VEHICLE = 6,      /* SA no vehicle's, or the own */
     CASTANHIU_OTHER_DESTINATION = 7,     /* PS not the own address (physical) or FF (functional) */
@@ -51,7 +51,7 @@ enum {
     CASTANHIU_WRONG_CONTENT = 24         /* a sheet's field with wrong content */
 };
 
-typedef struct { uint8_t priority, data_page, format, specific, source; } castanhiu_identifier;      /* P, DP, PF, PS, SA */
+typedef struct { uint8_t priority, reserved, data_page, format, specific, source; } castanhiu_identifier; /* P, R, DP, PF, PS, SA */
 typedef struct { uint8_t refusal; castanhiu_identifier fields; } castanhiu_identifier_answer;
 typedef struct { uint8_t refusal; uint32_t number; } castanhiu_number_answer;
 typedef struct { uint8_t refusal, own; } castanhiu_position_answer;
@@ -88,7 +88,7 @@ typedef struct {
 typedef struct { uint8_t refusal; } castanhiu_record_answer;
 typedef struct { uint8_t refusal; bool silent; size_t length; } castanhiu_serve_answer;
 
-_Static_assert(sizeof(castanhiu_identifier) == 5 && sizeof(castanhiu_identifier_answer) == 6, "identifier");
+_Static_assert(sizeof(castanhiu_identifier) == 6 && sizeof(castanhiu_identifier_answer) == 7, "identifier");
 _Static_assert(sizeof(castanhiu_number_answer) == 8 && offsetof(castanhiu_number_answer, number) == 4, "number");
 _Static_assert(sizeof(castanhiu_position_answer) == 2 && sizeof(castanhiu_route_answer) == 3, "position, route");
 _Static_assert(sizeof(castanhiu_parameter_answer) == 12 && sizeof(castanhiu_two_bits_answer) == 2, "readings");
@@ -100,13 +100,13 @@ _Static_assert(sizeof(castanhiu_frame) == 16 && offsetof(castanhiu_frame, data) 
 _Static_assert(sizeof(castanhiu_record) == 880 && offsetof(castanhiu_record, bytes) == 366, "record");
 _Static_assert(sizeof(castanhiu_record_answer) == 1 && sizeof(castanhiu_serve_answer) == 2 * sizeof(size_t), "record answers");
 
-/* Reads the fields of a 29-bit identifier.
- * Refuses: 2 a number of 2^29 or more, 4 R set.
+/* Reads the six fields of a 29-bit identifier.
+ * Refuses: 2 a number of 2^29 or more.
  * Memory: none. */
 castanhiu_identifier_answer castanhiu_identifier_read(uint32_t number);
 
-/* Writes an identifier from its fields, with R 0.
- * Refuses: 16 P over 7 or DP over 1.
+/* Writes an identifier from its six fields: R is set where the host sets it.
+ * Refuses: 16 P over 7, R over 1 or DP over 1.
  * Memory: none. */
 castanhiu_number_answer castanhiu_identifier_write(castanhiu_identifier fields);
 
@@ -115,8 +115,8 @@ castanhiu_number_answer castanhiu_identifier_write(castanhiu_identifier fields);
  * Memory: none. */
 castanhiu_position_answer castanhiu_position_after(uint8_t source);
 
-/* Whether a frame from a side is kept, and to which side it is sent on.
- * Refuses: 1 another side, own position not 1 to 5 or 5 with a successor, then 2, 3, 4 of the frame.
+/* Whether a frame from a side is kept, and to which side it is sent on. One with R set is sent on as with R 0, and not kept.
+ * Refuses: 1 another side, own position not 1 to 5 or 5 with a successor, then 2, 3 of the frame.
  * Memory: the data is left as found. */
 castanhiu_route_answer castanhiu_route(uint8_t side, uint8_t own, bool successor, uint32_t identifier,
                                        const uint8_t *data, size_t data_length);

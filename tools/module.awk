@@ -11,7 +11,7 @@
 # first. DECLARATIONS is what clang makes of the C declarations, for the target.
 BEGIN {
     # None of these depends on the processor but ptr, and its bytes are never looked at: an address is stored and loaded as one.
-    words = "define declare internal noundef zeroext void ptr i1 i8 i16 i24 i32 i40 i48 i64 float x label to true false" \
+    words = "define declare internal noundef zeroext void ptr i1 i8 i16 i24 i32 i48 i56 i64 float x label to true false" \
         " alloca load store getelementptr inbounds nuw nsw align !noundef !range call ret br switch unreachable" \
         " add sub mul udiv urem and or xor lshr icmp eq ne ult ule ugt uge slt sle sgt sge zext trunc" \
         " uitofp fsub fdiv fcmp oeq"
@@ -87,7 +87,7 @@ function agree(ours, theirs, is_whole) {
     if ((ours == "{ i64, i64 }" || ours == "{ i64, i32 }") && theirs == "[2 x i64]") return 1
     # A struct of fewer than 8 bytes lies in one register, its first byte lowest, and the bits past it are unspecified for both sides: the
     # module says how many bytes, clang says the register.
-    if (!is_whole && ours ~ /^i(8|16|24|32|40|48)$/ && theirs == "i64") return 1
+    if (!is_whole && ours ~ /^i(8|16|24|32|48|56)$/ && theirs == "i64") return 1
     return 0
 }
 

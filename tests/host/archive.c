@@ -42,6 +42,7 @@ model_identifier model_identifier_read(uint32_t number)
     return (model_identifier){
         .refusal = a.refusal,
         .priority = a.fields.priority,
+        .reserved = a.fields.reserved,
         .data_page = a.fields.data_page,
         .format = a.fields.format,
         .specific = a.fields.specific,
@@ -49,21 +50,11 @@ model_identifier model_identifier_read(uint32_t number)
     };
 }
 
-/* A frame's identifier is read where the frame is routed. */
-model_identifier model_identifier_of_frame(uint32_t number, size_t data_length)
+model_written model_identifier_write(uint32_t priority, uint32_t reserved, uint32_t data_page, uint8_t format, uint8_t specific,
+                                     uint8_t source)
 {
-    const castanhiu_route_answer a =
-        castanhiu_route(CASTANHIU_PREDECESSOR, 1, true, number, block, within(NULL, data_length));
-    if (a.refusal != 0) {
-        return (model_identifier){.refusal = a.refusal};
-    }
-    return model_identifier_read(number);
-}
-
-model_written model_identifier_write(uint32_t priority, uint32_t data_page, uint8_t format, uint8_t specific, uint8_t source)
-{
-    const castanhiu_number_answer a =
-        castanhiu_identifier_write((castanhiu_identifier){byte(priority), byte(data_page), format, specific, source});
+    const castanhiu_number_answer a = castanhiu_identifier_write(
+        (castanhiu_identifier){byte(priority), byte(reserved), byte(data_page), format, specific, source});
     return (model_written){.number = a.number, .refusal = a.refusal};
 }
 

@@ -126,7 +126,7 @@ static uint32_t an_identifier(void)
         number ^= UINT32_C(1) << 25;
     }
     if (one_in(10)) {
-        number = OF(0x20000000, 0x1FFFFFFF, 0x1DFFFFFF, 0, 0xFFFFFFFF, 0x02000000, any());
+        number = OF(0x20000000, 0x1FFFFFFF, 0x1DFFFFFF, 0, 0xFFFFFFFF, 0x02000000, 0x1AFE5DEB, any());
     }
     return number;
 }
@@ -149,10 +149,14 @@ static void identifiers(unsigned long count)
         const model_identifier m = model_identifier_read(number);
         SAME(a.refusal, m.refusal);
         SAME(a.fields.priority, m.priority);
+        SAME(a.fields.reserved, m.reserved);
         SAME(a.fields.data_page, m.data_page);
         SAME(a.fields.format, m.format);
         SAME(a.fields.specific, m.specific);
         SAME(a.fields.source, m.source);
+        if (a.refusal == 0) {
+            SAME(castanhiu_identifier_write(a.fields).number, number);
+        }
         answered(m.refusal);
     }
     end();
@@ -162,12 +166,13 @@ static void identifiers(unsigned long count)
         const castanhiu_identifier f = {
             (uint8_t)(one_in(8) ? OF(8, 9, 255, any() & 0xFF) : below(8)),
             (uint8_t)(one_in(8) ? OF(2, 3, 255, any() & 0xFF) : below(2)),
+            (uint8_t)(one_in(8) ? OF(2, 3, 255, any() & 0xFF) : below(2)),
             (uint8_t)any(),
             (uint8_t)any(),
             (uint8_t)any(),
         };
         const castanhiu_number_answer a = castanhiu_identifier_write(f);
-        const model_written m = model_identifier_write(f.priority, f.data_page, f.format, f.specific, f.source);
+        const model_written m = model_identifier_write(f.priority, f.reserved, f.data_page, f.format, f.specific, f.source);
         SAME(a.refusal, m.refusal);
         SAME(a.number, m.number);
         answered(m.refusal);
@@ -188,6 +193,7 @@ static void vehicles(unsigned long count)
     }
     end();
 
+    unsigned long set = 0, on = 0;
     begin("route");
     while (cases < count) {
         const uint8_t side = (uint8_t)(one_in(10) ? OF(2, 3, 9, 255, any() & 0xFF) : below(2));
@@ -203,8 +209,13 @@ static void vehicles(unsigned long count)
         SAME(a.kept, m.kept);
         SAME(a.onward, m.sent_on);
         answered(m.refusal);
+        if (a.refusal == 0 && (number >> 25 & 1) != 0) {
+            set++;
+            on += a.onward != CASTANHIU_NOWHERE;
+        }
     }
     end();
+    printf("    of them %lu with R set, %lu sent on\n", set, on);
 }
 
 static void readings(unsigned long count)

@@ -34,6 +34,7 @@ enum {
 typedef struct {
     uint8_t refusal;
     uint8_t priority;
+    uint8_t reserved;
     uint8_t data_page;
     uint8_t format;
     uint8_t specific;
@@ -45,15 +46,12 @@ typedef struct {
     uint8_t refusal;
 } model_written;
 
-/* Reads an identifier: 2, then 4. */
+/* Reads an identifier: 2. */
 model_identifier model_identifier_read(uint32_t number);
 
-/* Reads the identifier of a frame with so many data bytes: 2, then 3, then 4. */
-model_identifier model_identifier_of_frame(uint32_t number, size_t data_length);
-
-/* Writes an identifier, R being 0: 16 for a priority over 7 or a data page over 1. */
-model_written model_identifier_write(uint32_t priority, uint32_t data_page, uint8_t format,
-                                     uint8_t specific, uint8_t source);
+/* Writes an identifier: 16 for a priority over 7, a reserved bit over 1 or a data page over 1. */
+model_written model_identifier_write(uint32_t priority, uint32_t reserved, uint32_t data_page,
+                                     uint8_t format, uint8_t specific, uint8_t source);
 
 /* ---- vehicle ------------------------------------------------------------------------------- */
 
@@ -82,7 +80,7 @@ typedef struct {
     uint8_t sent_on;
 } model_routed;
 
-/* Side 0 from the predecessor, 1 from the successor: 1 (any other side too), 2, 3, 4. */
+/* Side 0 from the predecessor, 1 from the successor: 1 (any other side too), 2, 3. */
 model_routed model_route(uint32_t side, uint32_t own, uint8_t successor, uint32_t number,
                          size_t data_length);
 

@@ -135,58 +135,69 @@ static int is_open(const model_reception *a, uint32_t length, uint32_t frames, u
 static void test_identifier(void)
 {
     model_identifier id = model_identifier_read(0x18CEC9EB);
-    CHECK(id.refusal == 0 && id.priority == 6 && id.data_page == 0 && id.format == 206);
+    CHECK(id.refusal == 0 && id.priority == 6 && id.reserved == 0 && id.data_page == 0 && id.format == 206);
     CHECK(id.specific == 0xC9 && id.source == 0xEB);
     CHECK(model_position_of(id.specific) == 1 && model_position_of(id.source) == 0);
 
     const struct {
         uint32_t number;
         size_t length;
-        uint8_t alone, framed;
+        uint8_t alone, routed;
     } cases[] = {
         {0x20000000, 0, 2, 2},          {0x20000000, 8, 2, 2}, {0x20000000, 9, 2, 2},
-        {0x1FFFFFFF, 0, 4, 4},          {0x1FFFFFFF, 8, 4, 4}, {0x1FFFFFFF, 9, 4, 3},
-        {0x1DFFFFFF, 8, 0, 0},          {0x1DFFFFFF, 9, 0, 3}, {0x02000000, 8, 4, 4},
+        {0x1FFFFFFF, 0, 0, 0},          {0x1FFFFFFF, 8, 0, 0}, {0x1FFFFFFF, 9, 0, 3},
+        {0x1DFFFFFF, 8, 0, 0},          {0x1DFFFFFF, 9, 0, 3}, {0x02000000, 8, 0, 0},
         {0x01FFFFFF, 8, 0, 0},          {0xFFFFFFFF, 9, 2, 2}, {0, 0, 0, 0},
-        {0x18CEC9EB, SIZE_MAX, 0, 3},   {0x04000000, 0, 0, 0}, {0x06000000, 0, 4, 4},
+        {0x18CEC9EB, SIZE_MAX, 0, 3},   {0x04000000, 0, 0, 0}, {0x06000000, 0, 0, 0},
     };
     for (size_t i = 0; i < sizeof cases / sizeof cases[0]; i++) {
         const model_identifier a = model_identifier_read(cases[i].number);
-        const model_identifier b = model_identifier_of_frame(cases[i].number, cases[i].length);
-        CHECK(a.refusal == cases[i].alone && b.refusal == cases[i].framed);
+        CHECK(a.refusal == cases[i].alone);
+        CHECK(model_route(MODEL_SIDE_PREDECESSOR, 1, 1, cases[i].number, cases[i].length).refusal == cases[i].routed);
         if (a.refusal != 0) {
-            CHECK(!a.priority && !a.data_page && !a.format && !a.specific && !a.source);
-        }
-        if (b.refusal != 0) {
-            CHECK(!b.priority && !b.data_page && !b.format && !b.specific && !b.source);
+            CHECK(!a.priority && !a.reserved && !a.data_page && !a.format && !a.specific && !a.source);
         }
     }
+    id = model_identifier_read(0x1FFFFFFF);
+    CHECK(id.priority == 7 && id.reserved == 1 && id.data_page == 1 && id.format == 255 && id.specific == 255 && id.source == 255);
+    id = model_identifier_read(0x1AFE5DEB);
+    CHECK(id.priority == 6 && id.reserved == 1 && id.data_page == 0 && id.format == 254 && id.specific == 93 && id.source == 0xEB);
 
-    model_written w = model_identifier_write(6, 0, 206, 0xC9, 0xEB);
+    model_written w = model_identifier_write(6, 0, 0, 206, 0xC9, 0xEB);
     CHECK(w.refusal == 0 && w.number == 0x18CEC9EB);
-    w = model_identifier_write(7, 1, 255, 255, 255);
+    w = model_identifier_write(7, 0, 1, 255, 255, 255);
     CHECK(w.refusal == 0 && w.number == 0x1DFFFFFF);
-    w = model_identifier_write(8, 0, 1, 1, 1);
+    w = model_identifier_write(7, 1, 1, 255, 255, 255);
+    CHECK(w.refusal == 0 && w.number == 0x1FFFFFFF);
+    w = model_identifier_write(6, 1, 0, 254, 93, 0xEB);
+    CHECK(w.refusal == 0 && w.number == 0x1AFE5DEB);
+    w = model_identifier_write(8, 0, 0, 1, 1, 1);
     CHECK(w.refusal == 16 && w.number == 0);
-    w = model_identifier_write(0, 2, 1, 1, 1);
+    w = model_identifier_write(0, 2, 0, 1, 1, 1);
     CHECK(w.refusal == 16 && w.number == 0);
-    w = model_identifier_write(UINT32_MAX, UINT32_MAX, 1, 1, 1);
+    w = model_identifier_write(0, 0, 2, 1, 1, 1);
+    CHECK(w.refusal == 16 && w.number == 0);
+    w = model_identifier_write(UINT32_MAX, UINT32_MAX, UINT32_MAX, 1, 1, 1);
     CHECK(w.refusal == 16 && w.number == 0);
 
     for (int i = 0; i < 20000; i++) {
-        const uint32_t p = below(10), dp = below(4);
+        const uint32_t p = below(10), r = below(3), dp = below(4);
         const uint8_t pf = (uint8_t)any(), ps = (uint8_t)any(), sa = (uint8_t)any();
-        w = model_identifier_write(p, dp, pf, ps, sa);
-        CHECK((w.refusal == 16) == (p > 7 || dp > 1));
+        w = model_identifier_write(p, r, dp, pf, ps, sa);
+        CHECK((w.refusal == 16) == (p > 7 || r > 1 || dp > 1));
         if (w.refusal == 0) {
             CHECK(w.number ==
-                  p * 67108864u + dp * 16777216u + pf * 65536u + ps * 256u + sa);
+                  p * 67108864u + r * 33554432u + dp * 16777216u + pf * 65536u + ps * 256u + sa);
             id = model_identifier_read(w.number);
-            CHECK(id.refusal == 0 && id.priority == p && id.data_page == dp && id.format == pf &&
+            CHECK(id.refusal == 0 && id.priority == p && id.reserved == r && id.data_page == dp && id.format == pf &&
                   id.specific == ps && id.source == sa);
-            CHECK(model_identifier_read(w.number | 0x02000000u).refusal == 4);
             CHECK(model_identifier_read(w.number | 0x20000000u).refusal == 2);
         }
+        /* every number below 2^29 is read, and what is read is written as it */
+        const uint32_t number = any() & 0x1FFFFFFFu;
+        id = model_identifier_read(number);
+        w = model_identifier_write(id.priority, id.reserved, id.data_page, id.format, id.specific, id.source);
+        CHECK(id.refusal == 0 && w.refusal == 0 && w.number == number);
     }
 }
 
@@ -225,8 +236,6 @@ static void check_route(uint32_t side, uint32_t own, uint8_t successor, uint32_t
         refusal = 2;
     } else if (length > 8) {
         refusal = 3;
-    } else if (number & 0x02000000u) {
-        refusal = 4;
     } else {
         const uint8_t sa = (uint8_t)number, ps = (uint8_t)(number >> 8), pf = (uint8_t)(number >> 16);
         for (uint32_t p = 0; p < 6; p++) {
@@ -234,12 +243,15 @@ static void check_route(uint32_t side, uint32_t own, uint8_t successor, uint32_t
                 continue;
             }
             if ((side == 0 && p < own) || (side == 1 && p > own && successor)) {
-                kept = pf >= 240 || ps == vehicle[own] || ps == 255;
+                kept = !(number & 0x02000000u) && (pf >= 240 || ps == vehicle[own] || ps == 255);
                 sent_on = side == 1 ? 1 : successor ? 2 : 0;
             }
         }
     }
     CHECK(r.refusal == refusal && r.kept == kept && r.sent_on == sent_on);
+    /* the same frame with R set: the same, but not kept */
+    const model_routed s = model_route(side, own, successor, number | 0x02000000u, length);
+    CHECK(s.refusal == refusal && !s.kept && s.sent_on == sent_on);
 }
 
 static void test_route(void)
@@ -284,7 +296,15 @@ static void test_route(void)
     CHECK(model_route(0, 5, 1, 0x20000000, 9).refusal == 1);
     CHECK(model_route(0, 5, 0, 0x20000000, 9).refusal == 2);
     CHECK(model_route(0, 1, 1, 0x1FFFFFFF, 9).refusal == 3);
-    CHECK(model_route(0, 1, 1, 0x1FFFFFFF, 8).refusal == 4);
+    /* R set: sent on, and not kept; its source is no vehicle: neither */
+    r = model_route(0, 1, 1, 0x1AFE5DEB, 8);
+    CHECK(r.refusal == 0 && r.kept == 0 && r.sent_on == MODEL_SENT_SUCCESSOR);
+    r = model_route(0, 1, 1, 0x18FE5DEB, 8);
+    CHECK(r.refusal == 0 && r.kept == 1 && r.sent_on == MODEL_SENT_SUCCESSOR);
+    r = model_route(1, 1, 1, 0x1ACEC9C1, 8);
+    CHECK(r.refusal == 0 && r.kept == 0 && r.sent_on == MODEL_SENT_PREDECESSOR);
+    r = model_route(0, 1, 1, 0x1FFFFFFF, 8);
+    CHECK(r.refusal == 0 && r.kept == 0 && r.sent_on == MODEL_SENT_NOWHERE);
     CHECK(model_route(UINT32_MAX, 1, 1, 0, 0).refusal == 1);
     CHECK(model_route(0, UINT32_MAX, 1, 0, 0).refusal == 1);
 }
@@ -532,6 +552,11 @@ static void test_receiver_order(void)
     CHECK(is_refusal(offer(&node, 0x18CEC9EB, nine, 9, 0), 3));
     CHECK(is_refusal(model_receive(&node, buffer, 1536, 0x18CEC9EB, NULL, SIZE_MAX, 0), 3));
     CHECK(is_refusal(offer(&node, 0x1ACEC9EB, nine, 8, 0), 4));
+    CHECK(is_refusal(offer(&node, 0x1FFFFFFF, nine, 8, 0), 4));
+    CHECK(is_refusal(offer(&node, 0x1AFE5DEB, nine, 8, 0), 4));
+    for (int i = 0; i < 2000; i++) {
+        CHECK(is_refusal(offer(&node, (any() & 0x1FFFFFFFu) | 0x02000000u, nine, below(9), any()), 4));
+    }
     CHECK(is_single(offer(&node, 0x18CEC9EB, nine, 8, 0), 0, 0, 1));
     /* 5 before 6 before 7 before 8 */
     CHECK(is_refusal(offer(&node, 0x19CEC900, single, 0, 0), 5));

@@ -5,3 +5,5 @@ pub mod LawsBytes
 pub mod LawsParts
 pub mod LawsRefusals
 pub mod LawsIdentifiers
+pub mod LawsInverse
+pub mod LawsReserved

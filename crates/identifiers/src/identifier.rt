@@ -17,10 +17,11 @@ const PF_WEIGHT: u32 = 1 << 16;
 
 const PS_WEIGHT: u32 = 1 << 8;
 
-// P, DP, PF, PS and SA.
+// P, R, DP, PF, PS and SA.
 #[repr(C)]
 pub struct Identifier {
     pub priority: u8,
+    pub reserved: u8,
     pub data_page: u8,
     pub format: u8,
     pub specific: u8,
@@ -69,6 +70,7 @@ fn frame_passing(number: u32, count: usize) -> IdentifierRead
     }
     IdentifierRead::Fields(Identifier {
         priority: (number / P_WEIGHT % 8) as u8,
+        reserved: (number / R_WEIGHT % 2) as u8,
         data_page: (number / DP_WEIGHT % 2) as u8,
         format: (number / PF_WEIGHT % 256) as u8,
         specific: (number / PS_WEIGHT % 256) as u8,
@@ -76,40 +78,43 @@ fn frame_passing(number: u32, count: usize) -> IdentifierRead
     })
 }
 
-// The same, and check 4 of a number that passes.
-fn frame_read(number: u32, count: usize) -> IdentifierRead
-    ensures { λ r. ⌜ r ≡ frameRead number count ⌝ }
-{
-    let answer = frame_passing(number, count);
-    let IdentifierRead::Fields(_) = answer else {
-        return answer;
-    };
-    if number / R_WEIGHT % 2 == 1 {
-        return IdentifierRead::Refused(Refusal::ReservedBitSet);
-    }
-    answer
-}
-
 impl Identifier {
-    // The fields of a number: refusal 2, then 4.
+    // The fields of a number: refusal 2.
     pub fn read(number: u32) -> IdentifierRead
         ensures { λ r. ⌜ r ≡ readOf number ⌝ }
     {
-        frame_read(number, 0)
+        frame_passing(number, 0)
     }
 
-    // The fields of a frame's number: refusal 2, then 3 for its data, then 4.
+    // The fields of a frame that is sent on: refusal 2 for its number, then 3 for its data.
+    pub fn of_passing_frame(number: u32, data: &[u8]) -> IdentifierRead
+        ensures { λ r. ⌜ r ≡ framePassing number (length (now («data» .entry))) ⌝ }
+    {
+        frame_passing(number, data.len())
+    }
+
+    // The fields of a frame whose content is read: the same, then 4 for R.
     pub fn of_frame(number: u32, data: &[u8]) -> IdentifierRead
         ensures { λ r. ⌜ r ≡ frameRead number (length (now («data» .entry))) ⌝ }
     {
-        frame_read(number, data.len())
+        let answer = frame_passing(number, data.len());
+        let IdentifierRead::Fields(fields) = answer else {
+            return answer;
+        };
+        if fields.reserved == 1 {
+            return IdentifierRead::Refused(Refusal::ReservedBitSet);
+        }
+        answer
     }
 
-    // The number of the fields, with R 0: refusal 16 where P is over 7 or DP over 1.
+    // The number of the fields: refusal 16 where P is over 7, R over 1 or DP over 1.
     pub fn write(self) -> IdentifierWritten
         ensures { λ r. ⌜ r ≡ writtenAs self ⌝ }
     {
         if 7 < self.priority {
+            return IdentifierWritten::Refused(Refusal::NotWritable);
+        }
+        if 1 < self.reserved {
             return IdentifierWritten::Refused(Refusal::NotWritable);
         }
         if 1 < self.data_page {
@@ -117,6 +122,7 @@ impl Identifier {
         }
         IdentifierWritten::Number(
             self.priority as u32 * P_WEIGHT
+                + self.reserved as u32 * R_WEIGHT
                 + self.data_page as u32 * DP_WEIGHT
                 + self.format as u32 * PF_WEIGHT
                 + self.specific as u32 * PS_WEIGHT
@@ -145,6 +151,7 @@ impl IdentifierRead {
                 refusal: why.number(),
                 fields: Identifier {
                     priority: 0,
+                    reserved: 0,
                     data_page: 0,
                     format: 0,
                     specific: 0,

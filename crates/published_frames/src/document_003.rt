@@ -53,6 +53,7 @@ pub fn read(number: u32) {
     if !refused(told.refusal) {
         let fields = told.fields;
         say_number(b"P ", fields.priority as usize);
+        say_number(b" R ", fields.reserved as usize);
         say_number(b" DP ", fields.data_page as usize);
         say_number(b" PF ", fields.format as usize);
         say_byte(b" PS ", fields.specific);
@@ -61,14 +62,15 @@ pub fn read(number: u32) {
     }
 }
 
-// A name, P, DP, PF, PS and SA; what is written is read apart again.
+// A name, P, R, DP, PF, PS and SA; what is written is read apart again.
 pub fn written(case: &[u8]) {
     let fields = Identifier {
         priority: byte(case, 1, 10),
-        data_page: byte(case, 2, 10),
-        format: byte(case, 3, 10),
-        specific: byte(case, 4, 10),
-        source: byte(case, 5, 16),
+        reserved: byte(case, 2, 10),
+        data_page: byte(case, 3, 10),
+        format: byte(case, 4, 10),
+        specific: byte(case, 5, 10),
+        source: byte(case, 6, 16),
     };
     let told = fields.write().told();
     if !refused(told.refusal) {

@@ -9,9 +9,9 @@ pub fn document_003() {
 format;003 table 1: PF #: |0|239|240|255|
 address;003 table 3: #: |EB|C9|C1|B9|B1|A9|FF|C8|
 taken;003 6.2: predecessor #: |EB|C9|C1|B9|B1|A9|FF|C8|
-written;003 table 7, #: |GPM 11;6;0;226;201;EB|GPM 21;6;0;225;235;C9|
-written;003 table 8, #: |GPM 12;6;0;254;93;EB|GPM 13;3;0;254;95;EB|GPM 14;6;0;254;97;EB|GPM 15;6;0;254;99;EB|GPM 16;6;0;254;101;EB|\
-MAM 11;6;0;253;221;EB|GPM 22;6;0;254;200;C9|EBS 23;3;0;254;96;C9|GPM 24;3;0;254;98;C9|GPM 25;6;0;254;100;C9|MAM 21;6;0;253;222;C9|
+written;003 table 7, #: |GPM 11;6;0;0;226;201;EB|GPM 21;6;0;0;225;235;C9|
+written;003 table 8, #: |GPM 12;6;0;0;254;93;EB|GPM 13;3;0;0;254;95;EB|GPM 14;6;0;0;254;97;EB|GPM 15;6;0;0;254;99;EB|GPM 16;6;0;0;254;101;EB|\
+MAM 11;6;0;0;253;221;EB|GPM 22;6;0;0;254;200;C9|EBS 23;3;0;0;254;96;C9|GPM 24;3;0;0;254;98;C9|GPM 25;6;0;0;254;100;C9|MAM 21;6;0;0;253;222;C9|
 kind;003 table 4, 1 byte, raw #: |0;3;0;1|250;3;250;1|252;3;0;1|253;3;0;1|254;3;0;1|255;3;0;1|256;3;0;1|
 kind;003 table 4, 2 bytes, raw #: |0;6;0;1|64255;6;64255;1|64512;6;0;1|65023;6;0;1|65024;6;0;1|65279;6;0;1|65280;6;0;1|65535;6;0;1|\
 65536;6;0;1|
@@ -32,7 +32,7 @@ kind;no kind 8, raw #: |0;8;0;1|
     );
 }
 
-// 6.3: the side that a frame comes from, its identifier, the own position, and whether there is a successor.
+// 6.3, and document 02 of frames with R set: the side that a frame comes from, its identifier, the own position, and whether there is a successor.
 pub fn routes() {
     walk(
         b"
@@ -56,8 +56,21 @@ predecessor;18CEA9B1;5; with a successor|\
 predecessor;18CEC9EB;0; with a successor|\
 predecessor;18CEC9EB;1; with a successor|\
 predecessor;18CEC9EB;6|\
-predecessor;20000000;2; with a successor|\
-predecessor;1FFFFFFF;2; with a successor|
+predecessor;18FE5DEB;1; with a successor|\
+predecessor;20000000;2; with a successor|
+route;document 02, R set, from the #: # at position ##: |\
+predecessor;1ACEC1C9;2; with a successor|\
+predecessor;1ACEC1C9;2|\
+predecessor;1ACEB9C9;2; with a successor|\
+predecessor;1ACEFFEB;2; with a successor|\
+predecessor;1AF0B9C9;2; with a successor|\
+predecessor;1ACEC1C1;2; with a successor|\
+predecessor;1ACEC1C8;2; with a successor|\
+successor;1ACEC1B9;2; with a successor|\
+successor;1ACEC1B9;2|\
+predecessor;1ACEA9B1;5; with a successor|\
+predecessor;1AFE5DEB;1; with a successor|\
+predecessor;1FFFFFFF;1; with a successor|
 route;# bytes under # at position ##: |nine;1FFFFFFF;2; with a successor;123456789|nine;20000000;2; with a successor;123456789|
 ",
     );
@@ -129,10 +142,12 @@ another vehicle's consecutive/F;18CEC9EB;0;, before it: /\x05\x21\xF1\x8C\xF1\x9
 pub fn limits() {
     walk(
         b"
-written;identifier #: |written;7;1;255;255;FF|written;8;1;255;255;FF|written;7;2;255;255;FF|written;0;0;255;255;FF|
-identifier;identifier #: |read;00000000|read;1DFFFFFF|read;02000000|read;1FFFFFFF|read;20000000|read;FFFFFFFF|
+written;identifier #: |written;7;0;1;255;255;FF|written;8;0;1;255;255;FF|written;7;0;2;255;255;FF|written;0;0;0;255;255;FF|\
+written;7;1;1;255;255;FF|written;7;2;1;255;255;FF|written;6;1;0;254;93;EB|
+identifier;identifier #: |read;00000000|read;1DFFFFFF|read;02000000|read;1FFFFFFF|read;1AFE5DEB|read;20000000|read;FFFFFFFF|
 offered;#, data$: |identifier past 29 bits;\x05\x02\x3E\x00;20000000|nine bytes;\x05\x02\x3E\x00\x00\x00\x00\x00\x00;18CEC9EB|\
-eight bytes;\x05\x02\x3E\x00\x00\x00\x00\x00;18CEC9EB|R set;\x05\x02\x3E\x00;1ACEC9EB|DP 1;\x05\x02\x3E\x00;19CEC9EB|\
+eight bytes;\x05\x02\x3E\x00\x00\x00\x00\x00;18CEC9EB|R set;\x05\x02\x3E\x00;1ACEC9EB|\
+1FFFFFFF;\x05\x02\x3E\x00;1FFFFFFF|1AFE5DEB;\x05\x02\x3E\x00;1AFE5DEB|DP 1;\x05\x02\x3E\x00;19CEC9EB|\
 PF 204;\x05\x02\x3E\x00;18CCC9EB|PF 207;\x05\x02\x3E\x00;18CFC9EB|SA no vehicle;\x05\x02\x3E\x00;18CEC9C8|SA own;\x05\x02\x3E\x00;18CEC9C9|\
 SA position 5;\x05\x02\x3E\x00;18CEC9A9|physical to FF;\x05\x02\x3E\x00;18CEFFEB|physical to position 2;\x05\x02\x3E\x00;18CEC1EB|\
 functional to the own address;\x05\x02\x3E\x00;18CDC9EB|no unit;;18CEC9EB|unit 4;\x04\x02\x3E\x00;18CEC9EB|\

@@ -9,12 +9,12 @@ use borrow.Author.Tests.{ltb-true, eqb-true, lt-ltb, eq-eqb}
 use lib.Dec.{eqb}
 use Rattle.identifiers.specs.Choice.{pick, either}
 use Rattle.identifiers.specs.Refusals.{refusal}
-use Rattle.identifiers.specs.Identifiers.{fieldsOf, frameRead, targetOf}
+use Rattle.identifiers.specs.Identifiers.{fieldsOf, framePassing, targetOf}
 use Rattle.identifiers.specs.declared.refusal.Refusal.{Refusal}
 use Rattle.identifiers.specs.declared.identifier.Identifier.{Identifier}
 use Rattle.identifiers.specs.declared.identifier.IdentifierRead.the-variants as read
 use Rattle.identifiers.proofs.LawsChoice.{pick-true, pick-false, so, both-true, left-holds, right-holds}
-use Rattle.identifiers.proofs.LawsIdentifiers.{fields-are, target-destination, target-group, target-same}
+use Rattle.identifiers.proofs.LawsIdentifiers.{fields-are, reserved-is, target-destination, target-group, target-same}
 use Rattle.readings.specs.declared.position.Position.{Position}
 use Rattle.readings.specs.declared.position.Vehicle.{Vehicle}
 use Rattle.readings.specs.declared.position.Vehicle.the-variants.{At, NoVehicle}
@@ -24,7 +24,7 @@ use Rattle.readings.specs.declared.routing.Onward.{Onward}
 use Rattle.readings.specs.declared.routing.Onward.the-variants.{Nowhere, ToPredecessor, ToSuccessor}
 use Rattle.readings.specs.declared.routing.Routed.the-variants.{Passed, Neither, Refused}
 use Rattle.readings.specs.Positions.{placeOf, addressOf, global, positionOf}
-use Rattle.readings.specs.Routes.{ownPosition, comesFrom, named, onwardOf, passage, routedFrom, routedBy, routedRead, routedAt, routeOf, ComesFrom, Keeps, to-own, to-all, to-group}
+use Rattle.readings.specs.Routes.{ownPosition, comesFrom, named, onwardOf, passage, routedFrom, routedBy, routedRead, routedAt, routeOf, ComesFrom, Named, to-own, to-all, to-group, Keeps}
 
 -- ---- the route of a frame whose fields were read
 module _ (side : Side) (own : Position) (successor : Bool) (i : Identifier) where
@@ -65,37 +65,44 @@ module _ (own : Position) (n : ℕ) where
   unfolding named
   to-a-group h = rw (fields-are n) (ap (named (addressOf own)) (target-group _ h))
 
-  which : (mine all : Bool) → PF < 240 → eqb PS (addressOf own) ≡ mine → eqb PS global ≡ all → either mine all ≡ true → Keeps own n
+  which : (mine all : Bool) → PF < 240 → eqb PS (addressOf own) ≡ mine → eqb PS global ≡ all → either mine all ≡ true → Named own n
   unfolding either
   which true all h a b e = to-own h (eqb-true _ _ a)
   which false all h a b e = to-all h (eqb-true _ _ (b ∙ e))
 
-  kept-so : Keeps own n → named (addressOf own) (targetOf (fieldsOf n)) ≡ true
-  kept-so (to-own h e) = to-destination h ∙ sym (left-holds _ (eq-eqb _ _ e))
-  kept-so (to-all h e) = to-destination h ∙ sym (right-holds _ (eq-eqb _ _ e))
-  kept-so (to-group h) = to-a-group h
+  named-so : Named own n → named (addressOf own) (targetOf (fieldsOf n)) ≡ true
+  named-so (to-own h e) = to-destination h ∙ sym (left-holds _ (eq-eqb _ _ e))
+  named-so (to-all h e) = to-destination h ∙ sym (right-holds _ (eq-eqb _ _ e))
+  named-so (to-group h) = to-a-group h
 
-  keeps : Dec (PF < 240) → named (addressOf own) (targetOf (fieldsOf n)) ≡ true → Keeps own n
-  keeps (yes h) e = which _ _ h refl refl (sym (to-destination h) ∙ e)
-  keeps (no h) e = to-group (omega arith)
+  names : Dec (PF < 240) → named (addressOf own) (targetOf (fieldsOf n)) ≡ true → Named own n
+  names (yes h) e = which _ _ h refl refl (sym (to-destination h) ∙ e)
+  names (no h) e = to-group (omega arith)
 
-  pub kept-exactly : named (addressOf own) (targetOf (fieldsOf n)) ≡ true ↔ Keeps own n
-  kept-exactly = (keeps (decLt PF 240), kept-so)
+  pub named-exactly : named (addressOf own) (targetOf (fieldsOf n)) ≡ true ↔ Named own n
+  named-exactly = (names (decLt PF 240), named-so)
+
+  pub kept-exactly : (side : Side) (successor : Bool) → passage side own successor (fieldsOf n) .kept ≡ true ↔ Keeps own n
+  unfolding passage
+  kept-exactly side successor = (
+    λ e. let b = both-true _ _ e in record { reserved = sym (reserved-is n) ∙ eqb-true _ _ (b .0); names = named-exactly .0 (b .1) },
+    λ (k : Keeps own n). sym (so (eq-eqb _ _ (reserved-is n ∙ k .reserved)) (sym (named-exactly .1 (k .names)))),
+  )
 
 -- ---- one law a rung: 1, then what the frame's reader refuses, else the route
 module _ (side : Side) (own : ℕ) (successor : Bool) (number count : ℕ) where
   pub route-1 : ownPosition own successor ≡ NoVehicle → routeOf side own successor number count ≡ Refused (refusal 1)
   unfolding routeOf routedAt
-  route-1 h = ap (routedAt side successor (frameRead number count)) h
+  route-1 h = ap (routedAt side successor _) h
 
-  pub route-refused : (p : Position) (why : Refusal) → ownPosition own successor ≡ At p → frameRead number count ≡ read.Refused why → routeOf side own successor number count ≡ Refused why
+  pub route-refused : (p : Position) (why : Refusal) → ownPosition own successor ≡ At p → framePassing number count ≡ read.Refused why → routeOf side own successor number count ≡ Refused why
   unfolding routeOf routedAt routedRead
-  route-refused p why h k = ap (routedAt side successor (frameRead number count)) h ∙ ap (routedRead side p successor) k
+  route-refused p why h k = ap (routedAt side successor (framePassing number count)) h ∙ ap (routedRead side p successor) k
 
-  pub route-read : (p : Position) (i : Identifier) → ownPosition own successor ≡ At p → frameRead number count ≡ read.Fields i
+  pub route-read : (p : Position) (i : Identifier) → ownPosition own successor ≡ At p → framePassing number count ≡ read.Fields i
       → routeOf side own successor number count ≡ routedBy side p successor i
   unfolding routeOf routedAt routedRead
-  route-read p i h k = ap (routedAt side successor (frameRead number count)) h ∙ ap (routedRead side p successor) k
+  route-read p i h k = ap (routedAt side successor (framePassing number count)) h ∙ ap (routedRead side p successor) k
 
 -- ---- "sent on unchanged to the other side where a neighbour exists (the predecessor always does)"
 pub sent-on : (onwardOf Predecessor true ≡ ToSuccessor) × ((onwardOf Predecessor false ≡ Nowhere) × ((successor : Bool) → onwardOf Successor successor ≡ ToPredecessor))
@@ -115,7 +122,7 @@ never-back Successor successor e = let z : _≡_ {A = ℕ} 0 1 = cc in omega ari
 
 -- ---- "Priority is ignored on receipt"
 abbrev pub withPriority : ℕ → Identifier → Identifier
-withPriority p i = record { priority = p; «data_page» = i .«data_page»; format = i .format; specific = i .specific; source = i .source }
+withPriority p i = record { priority = p; reserved = i .reserved; «data_page» = i .«data_page»; format = i .format; specific = i .specific; source = i .source }
 
 pub priority-ignored : (side : Side) (own : Position) (successor : Bool) (i : Identifier) (p : ℕ) → routedBy side own successor (withPriority p i) ≡ routedBy side own successor i
 unfolding routedBy routedFrom passage

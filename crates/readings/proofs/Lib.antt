@@ -6,3 +6,4 @@ pub mod LawsFractions
 pub mod LawsWholes
 pub mod LawsOutcomes
 pub mod LawsReadings
+pub mod LawsReserved

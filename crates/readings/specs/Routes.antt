@@ -1,11 +1,11 @@
--- The route of a frame: whether it is kept, and to which side it is sent on (document 01, "Identifier, vehicle, route").
+-- The route of a frame: whether it is kept, and to which side it is sent on (document 01, "Identifier, vehicle, route"; document 02, 2026-07).
 use mathlib.Core.Path.{_≡_}
 use mathlib.Core.Bool.{Bool, true, false}
 use Prim.Native.Nat.{ℕ, _/_, _%_, _^_, _≤_, _<_}
 use lib.Dec.{ltb, eqb}
 use Rattle.identifiers.specs.Choice.{pick, unless, both, either}
 use Rattle.identifiers.specs.Refusals.{refusal, numberOf}
-use Rattle.identifiers.specs.Identifiers.{frameRead, targetOf}
+use Rattle.identifiers.specs.Identifiers.{reservedBit, framePassing, targetOf}
 use Rattle.identifiers.specs.declared.identifier.Identifier.{Identifier}
 use Rattle.identifiers.specs.declared.identifier.IdentifierRead.{IdentifierRead}
 use Rattle.identifiers.specs.declared.identifier.IdentifierRead.the-variants as read
@@ -44,8 +44,9 @@ unfoldable pub onwardOf : Side → Bool → Onward
 onwardOf Predecessor successor = pick successor ToSuccessor Nowhere
 onwardOf Successor successor = ToPredecessor
 
+-- document 02, 2026-07, of frames with R set: "the router sends such frames on by the same rule but never keeps them"
 unfoldable pub passage : Side → Position → Bool → Identifier → Passage
-passage side own successor i = record { kept = named (addressOf own) (targetOf i); onward = onwardOf side successor }
+passage side own successor i = record { kept = both (eqb (i .reserved) 0) (named (addressOf own) (targetOf i)); onward = onwardOf side successor }
 
 -- "Else, and for an SA that is no vehicle, it is neither kept nor sent on"
 unfoldable pub routedFrom : Side → Position → Bool → Identifier → Vehicle → Routed
@@ -55,7 +56,7 @@ routedFrom side own successor i NoVehicle = Neither
 unfoldable pub routedBy : Side → Position → Bool → Identifier → Routed
 routedBy side own successor i = routedFrom side own successor i (positionOf (i .source))
 
--- 2, 3 and 4 of the frame, and else its route
+-- 2 and 3 of the frame, and else its route
 unfoldable pub routedRead : Side → Position → Bool → IdentifierRead → Routed
 routedRead side own successor (read.Fields i) = routedBy side own successor i
 routedRead side own successor (read.Refused why) = Refused why
@@ -66,7 +67,7 @@ routedAt side successor answer NoVehicle = Refused (refusal 1)
 
 -- a frame from a side, by the own position, whether a successor exists, the frame's number and how many data bytes it has
 unfoldable pub routeOf : Side → ℕ → Bool → ℕ → ℕ → Routed
-routeOf side own successor number count = routedAt side successor (frameRead number count) (ownPosition own successor)
+routeOf side own successor number count = routedAt side successor (framePassing number count) (ownPosition own successor)
 
 -- the answer in document 01's numbers; sent on: 0 nowhere, 1 to the predecessor, 2 to the successor
 abbrev pub onwardNumber : Onward → ℕ
@@ -85,8 +86,13 @@ abbrev pub ComesFrom : Side → ℕ → Bool → ℕ → Type 0
 ComesFrom Predecessor own successor source = source < own
 ComesFrom Successor own successor source = (successor ≡ true) × (own < source)
 
--- "It is kept when the destination is the own address or FF, or PF is 240 or more": of an identifier's number
-pub data Keeps (own : Position) (n : ℕ) : Type 0 where
-  to-own : n / 2 ^ 16 % 2 ^ 8 < 240 → n / 2 ^ 8 % 2 ^ 8 ≡ addressOf own → Keeps own n
-  to-all : n / 2 ^ 16 % 2 ^ 8 < 240 → n / 2 ^ 8 % 2 ^ 8 ≡ 0xFF → Keeps own n
-  to-group : 240 ≤ n / 2 ^ 16 % 2 ^ 8 → Keeps own n
+-- "the destination is the own address or FF, or PF is 240 or more": of an identifier's number
+pub data Named (own : Position) (n : ℕ) : Type 0 where
+  to-own : n / 2 ^ 16 % 2 ^ 8 < 240 → n / 2 ^ 8 % 2 ^ 8 ≡ addressOf own → Named own n
+  to-all : n / 2 ^ 16 % 2 ^ 8 < 240 → n / 2 ^ 8 % 2 ^ 8 ≡ 0xFF → Named own n
+  to-group : 240 ≤ n / 2 ^ 16 % 2 ^ 8 → Named own n
+
+-- "It is kept when" that is so, and, by 2026-07, R is 0
+pub record Keeps (own : Position) (n : ℕ) : Type 0 where
+  pub reserved : reservedBit n ≡ 0
+  pub names : Named own n

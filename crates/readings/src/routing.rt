@@ -95,7 +95,7 @@ fn routed_by(side: Side, own: Position, successor: bool, fields: Identifier) -> 
     };
     if comes_from(side, own.place(), successor, source.place()) {
         Routed::Passed(Passage {
-            kept: names(own.address(), fields.target()),
+            kept: (fields.reserved == 0) & names(own.address(), fields.target()),
             onward: onward_of(side, successor),
         })
     } else {
@@ -103,14 +103,14 @@ fn routed_by(side: Side, own: Position, successor: bool, fields: Identifier) -> 
     }
 }
 
-// The route of a frame from a side: refusal 1 for the own position, then 2, 3 and 4 of the frame.
+// The route of a frame from a side: refusal 1 for the own position, then 2 and 3 of the frame.
 pub fn route(side: Side, own: u8, successor: bool, number: u32, data: &[u8]) -> Routed
     ensures { λ r. ⌜ r ≡ routeOf side own successor number (length (now («data» .entry))) ⌝ }
 {
     let Vehicle::At(position) = own_position(own, successor) else {
         return Routed::Refused(Refusal::RulesBroken);
     };
-    let answer = Identifier::of_frame(number, data);
+    let answer = Identifier::of_passing_frame(number, data);
     let IdentifierRead::Fields(fields) = answer else {
         let IdentifierRead::Refused(why) = answer else {
             return Routed::Neither;

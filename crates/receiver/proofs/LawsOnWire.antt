@@ -17,7 +17,7 @@ use Rattle.identifiers.specs.declared.identifier.IdentifierWritten.the-variants
 use Rattle.identifiers.specs.declared.answer.Answer.the-variants.{Done}
 use Rattle.identifiers.proofs.LawsChoice.{pick-true, pick-false, right-decides}
 use Rattle.identifiers.proofs.LawsBytes.{take-written}
-use Rattle.identifiers.proofs.LawsIdentifiers.{Widths, formula-range, formula-reserved, formula-fields, write-number}
+use Rattle.identifiers.proofs.LawsInverse.{Widths, formula-range, formula-reserved, formula-fields, write-number}
 use Rattle.readings.specs.Positions.{placeOf}
 use Rattle.readings.specs.declared.position.Position.{Position}
 use Rattle.readings.proofs.LawsPositions.{place-back, address-byte}
@@ -33,11 +33,11 @@ use Rattle.receiver.proofs.LawsPieces.{frames-one, frames-many, between
 module _ (sender receiver : Position) where
   -- its identifier
   abbrev pub identifierTo : ℕ
-  identifierTo = formula 0 (physicalTo sender receiver)
+  identifierTo = formula (physicalTo sender receiver)
 
   is-number : writtenAs (physicalTo sender receiver) ≡ number.Number identifierTo
   unfolding physicalTo
-  is-number = write-number (physicalTo sender receiver) (lit≤ tt) (lit≤ tt)
+  is-number = write-number (physicalTo sender receiver) (lit≤ tt) (lit≤ tt) (lit≤ tt)
 
   framed-is : (count : ℕ) (bytes : List ℕ) → framed sender receiver count bytes ≡ record { answer = Done; identifier = identifierTo; length = count; «data» = bytes }
   unfolding framed framedAs
@@ -122,17 +122,17 @@ module _ (sender receiver : Position) (unit stamp : ℕ) (other : placeOf sender
 module _ (own p : Position) where
   widths : Widths (physicalTo p own)
   unfolding physicalTo
-  widths = record { priority = lit< tt; «data_page» = lit< tt; format = lit< tt; specific = address-byte own; source = address-byte p }
+  widths = record { priority = lit< tt; reserved = lit< tt; «data_page» = lit< tt; format = lit< tt; specific = address-byte own; source = address-byte p }
 
   fields-back : fieldsOf (identifierTo p own) ≡ physicalTo p own
-  fields-back = formula-fields (physicalTo p own) 0 widths (lit< tt)
+  fields-back = formula-fields (physicalTo p own) widths
 
   pub cut-addressed : (unit : ℕ) (rest : List ℕ) → placeOf p ≢ placeOf own → length (unit ∷ rest) ≤ 8 → Addressed own unit (identifierTo p own) (unit ∷ rest) p false
   unfolding physicalTo pick
   cut-addressed unit rest other l =
-      let bit = formula-reserved (physicalTo p own) 0 widths (lit< tt) in
+      let bit = formula-reserved (physicalTo p own) widths in
       record {
-        range = formula-range (physicalTo p own) 0 widths (lit< tt);
+        range = formula-range (physicalTo p own) widths;
         count = l;
         reserved = λ (e : reservedBit (identifierTo p own) ≡ 1). omega arith;
         page = ap (λ (i : Identifier). i .«data_page») fields-back;

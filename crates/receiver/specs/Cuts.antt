@@ -31,9 +31,9 @@ frameCount L = pick (either (eqb L 0) (ltb 255 L)) 0 (pick (leb L 6) 1 (1 + (L -
 unfoldable pub noFrame : FrameCut
 noFrame = record { answer = Refused (refusal 16); identifier = 0; length = 0; «data» = replicate 8 0 }
 
--- from one position to another: priority 6, DP 0, PF 206
+-- from one position to another: priority 6, R 0, DP 0, PF 206
 unfoldable pub physicalTo : Position → Position → Identifier
-physicalTo sender receiver = record { priority = 6; «data_page» = 0; format = 206; specific = addressOf receiver; source = addressOf sender }
+physicalTo sender receiver = record { priority = 6; reserved = 0; «data_page» = 0; format = 206; specific = addressOf receiver; source = addressOf sender }
 
 unfoldable pub framedAs : ℕ → List ℕ → IdentifierWritten → FrameCut
 framedAs count «data» (written.Number n) = record { answer = Done; identifier = n; length = count; «data» = «data» }

@@ -62,6 +62,7 @@ fn frame(sender: Position, receiver: Position, length: u8, data: [u8; 8]) -> Fra
 {
     let fields = Identifier {
         priority: 6,
+        reserved: 0,
         data_page: 0,
         format: 206,
         specific: receiver.address(),

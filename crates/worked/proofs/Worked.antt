@@ -1,4 +1,4 @@
--- Document 01's worked numbers that are marked P, all of them in its order, by computation on the definitions that the contracts cite.
+-- Document 01's worked numbers that are marked P, all of them in its order, and document 02's on frames with R set, by computation on the definitions that the contracts cite.
 use mathlib.Core.Path.{_≡_, refl}
 use mathlib.Core.Bool.{true, false}
 use mathlib.Core.List.{List, [], _∷_}
@@ -8,16 +8,21 @@ use lib.Ieee.{fin, round}
 use lib.ListN.{length, replicate}
 use Rattle.identifiers.specs.Choice.{pick, both, either}
 use Rattle.identifiers.specs.Below.{allBelow, countBelow, listBelow, firstBelow}
-use Rattle.identifiers.specs.Bytes.{written}
+use Rattle.identifiers.specs.Bytes as bytes
 use Rattle.identifiers.specs.Refusals.{refusal}
 use Rattle.identifiers.specs.Identifiers.{formula, reservedBit, fieldsOf, framePassing, readPassing, frameRead, readOf, writtenAs, targetOf}
 use Rattle.identifiers.specs.declared.identifier.Identifier.{Identifier}
 use Rattle.identifiers.specs.declared.identifier.IdentifierRead.the-variants as read
+use Rattle.identifiers.specs.declared.identifier.IdentifierWritten.the-variants as written
 use Rattle.identifiers.specs.declared.identifier.Target.the-variants.{Destination}
 use Rattle.identifiers.specs.declared.answer.Answer.the-variants.{Done}
 use Rattle.readings.specs.Fractions.{fraction}
 use Rattle.readings.specs.Kinds as kinds
 use Rattle.readings.specs.Positions.{addresses, addressOf, positions, positionAmong, positionOf, positionAt, trailerAt, successorOf, nextOf, takenAs, takenAfter}
+use Rattle.readings.specs.Routes.{ownPosition, comesFrom, named, onwardOf, passage, routedFrom, routedBy, routedRead, routedAt, routeOf}
+use Rattle.readings.specs.declared.routing.Side.the-variants.{Predecessor}
+use Rattle.readings.specs.declared.routing.Onward.the-variants.{ToSuccessor}
+use Rattle.readings.specs.declared.routing.Routed.the-variants.{Passed, Neither}
 use Rattle.readings.specs.Readings.{withoutValue, valued, inRange, measuredBy, measuredAs, parameterOf}
 use Rattle.readings.specs.declared.position.Position.the-variants.{Zero, One, Five}
 use Rattle.readings.specs.declared.position.Vehicle.the-variants.{At}
@@ -50,7 +55,14 @@ use Rattle.server.specs.declared.serving.Reply.the-variants.{Silent, Sent}
 
 -- the fields of `18CEC9EB`
 abbrev pub fields : Identifier
-fields = record { priority = 6; «data_page» = 0; format = 206; specific = 0xC9; source = 0xEB }
+fields = record { priority = 6; reserved = 0; «data_page» = 0; format = 206; specific = 0xC9; source = 0xEB }
+
+-- those of `1FFFFFFF` and of `1AFE5DEB`, which have R set
+abbrev pub largest : Identifier
+largest = record { priority = 7; reserved = 1; «data_page» = 1; format = 255; specific = 255; source = 255 }
+
+abbrev pub coming : Identifier
+coming = record { priority = 6; reserved = 1; «data_page» = 0; format = 254; specific = 93; source = 0xEB }
 
 -- a fresh node at position 1 with unit 05, and its buffer
 abbrev pub node : Held
@@ -111,8 +123,16 @@ pub record Worked : Type 0 where
   pub from-position : positionOf 0xEB ≡ At Zero
   -- "`20000000`: 2."
   pub too-large : readOf 0x20000000 ≡ read.Refused (refusal 2)
-  -- "`1FFFFFFF`: 4."
-  pub reserved : readOf 0x1FFFFFFF ≡ read.Refused (refusal 4)
+  -- "`1FFFFFFF`: 4.", by the receiver; document 02, 2026-07, changes "case `1FFFFFFF` for the reader alone"
+  pub reserved : answer node (record { identifier = 0x1FFFFFFF; bytes = 0x05 ∷ 0x02 ∷ 0x3E ∷ 0x00 ∷ []; stamp = 0 }) .outcome ≡ outcome.Refused (refusal 4)
+  pub reserved-read : readOf 0x1FFFFFFF ≡ read.Fields largest
+  pub reserved-written : writtenAs largest ≡ written.Number 0x1FFFFFFF
+  -- its source is no vehicle; the towing vehicle's `1AFE5DEB` is "sent on", and not kept
+  pub reserved-neither : routeOf Predecessor 1 true 0x1FFFFFFF 0 ≡ Neither
+  pub coming-read : readOf 0x1AFE5DEB ≡ read.Fields coming
+  pub coming-written : writtenAs coming ≡ written.Number 0x1AFE5DEB
+  pub coming-sent-on : routeOf Predecessor 1 true 0x1AFE5DEB 0 ≡ Passed (record { kept = false; onward = ToSuccessor })
+  pub coming-received : answer node (record { identifier = 0x1AFE5DEB; bytes = 0x05 ∷ 0x02 ∷ 0x3E ∷ 0x00 ∷ []; stamp = 0 }) .outcome ≡ outcome.Refused (refusal 4)
   -- "unit 05: `05 10 0B 22 F1 90 F1 87`, `05 21 F1 8C F1 95 F1 97`: an 11-byte request."
   pub eleven : handedOut 0x21 0 0 ≡ record { at = 1; from = Zero; functional = false; bytes = request } ∷ []
   pub eleven-bytes : length request ≡ 11
@@ -158,9 +178,10 @@ pub record Worked : Type 0 where
 
 pub worked : Worked
 unfolding round
-    pick both either allBelow countBelow listBelow written formula reservedBit fieldsOf framePassing readPassing frameRead readOf writtenAs targetOf
+    pick both either allBelow countBelow listBelow bytes.written formula reservedBit fieldsOf framePassing readPassing frameRead readOf writtenAs targetOf
     fraction kinds.kindOf kinds.highByte kinds.wholeOf
     addresses addressOf positions positionAmong positionOf positionAt trailerAt successorOf nextOf takenAs takenAfter
+    ownPosition comesFrom named onwardOf passage routedFrom routedBy routedRead routedAt routeOf
     withoutValue valued inRange measuredBy measuredAs parameterOf
     soundReception receptionAt withReception soundNode freshNode
     diagnostic destinationOf unitIs addressedFrom addressedBy addressedRead addressingOf singleOf firstLength firstOf carriedOf judgedFrom judgedOf
@@ -181,6 +202,13 @@ worked =
       from-position = refl;
       too-large = refl;
       reserved = refl;
+      reserved-read = refl;
+      reserved-written = refl;
+      reserved-neither = refl;
+      coming-read = refl;
+      coming-written = refl;
+      coming-sent-on = refl;
+      coming-received = refl;
       eleven = refl;
       eleven-bytes = refl;
       wrong-number = refl;

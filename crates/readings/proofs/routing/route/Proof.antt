@@ -11,17 +11,17 @@ returns c = sym (route-1 _ _ _ _ _ (sym (c .before .before .own-position .ensure
 returns-3 : tie.Need-returns-3
 returns-3 c =
     let at-answer2 = c .before .before .before .before in
-    let at-of-frame = at-answer2 .before .before in
-    let at-position = at-of-frame .before .before in
+    let at-frame = at-answer2 .before .before in
+    let at-position = at-frame .before .before in
     let at-own-position = at-position .before .before in
-    sym (route-refused _ _ _ _ _ _ _ (sym (at-own-position .own-position .ensures) ∙ (at-position .position .given .1)) (sym (at-of-frame .of-frame .ensures) ∙ (at-answer2 .answer2 .given .1) ∙ (c .before .answer3 .given .1)))
+    sym (route-refused _ _ _ _ _ _ _ (sym (at-own-position .own-position .ensures) ∙ (at-position .position .given .1)) (sym (at-frame .of-passing-frame .ensures) ∙ (at-answer2 .answer2 .given .1) ∙ (c .before .answer3 .given .1)))
 
 returns-4 : tie.Need-returns-4
 returns-4 c =
-    let at-of-frame = c .before .before .before .before in
-    let at-position = at-of-frame .before .before in
+    let at-frame = c .before .before .before .before in
+    let at-position = at-frame .before .before in
     let at-own-position = at-position .before .before in
-    (c .routed-by .ensures) ∙ sym (route-read _ _ _ _ _ _ _ (sym (at-own-position .own-position .ensures) ∙ (at-position .position .given .1)) (sym (at-of-frame .of-frame .ensures) ∙ (c .before .before .answer .given .1)))
+    (c .routed-by .ensures) ∙ sym (route-read _ _ _ _ _ _ _ (sym (at-own-position .own-position .ensures) ∙ (at-position .position .given .1)) (sym (at-frame .of-passing-frame .ensures) ∙ (c .before .before .answer .given .1)))
 
 pub route-spec : {M : Type 1} → statement M
 route-spec =

@@ -1,10 +1,13 @@
 -- `routed_by` meets its contract: each return is at one of the laws of `routedBy`.
-use mathlib.Core.Path.{_≡_, sym, _∙_}
+use mathlib.Core.Path.{_≡_, sym, ap, _∙_}
 use mathlib.Core.Bool.{Bool}
 use Prim.Native.Nat.{ℕ}
+use lib.Dec.{eqb}
 use borrow.Author.Needs.{needs}
+use Rattle.identifiers.proofs.LawsChoice.{and-is}
 use Rattle.readings.specs.declared.routing.Side.{Side}
-use Rattle.readings.specs.Routes.{comesFrom, passage}
+use Rattle.readings.specs.declared.routing.Routed.the-variants.{Passed}
+use Rattle.readings.specs.Routes.{comesFrom, onwardOf, passage}
 use Rattle.readings.proofs.LawsRoutes.{from-none, from-wrong, from-right}
 use Rattle.readings.proofs.routing.routed_by.Statement.{statement}
 use Rattle.readings.proofs.routing.routed_by.Tie as tie
@@ -20,7 +23,7 @@ returns-2 : tie.Need-returns-2
 unfolding passage
 returns-2 c =
     let at-address = c .before .before .before in
-    let at-if1 = at-address .before in
+    let at-if1 = at-address .before .before in
     let at-comes-from = at-if1 .before in
     let at-place2 = at-comes-from .before in
     let at-place = at-place2 .before in
@@ -28,7 +31,8 @@ returns-2 c =
     let at-of-address = at-source .before .before in
     let entry = at-of-address .before in
     rw ((c .before .names .ensures), (at-address .address .ensures), (c .before .before .target .ensures), (c .onward-of .ensures))
-    (sym (from-right (entry .args .side) (entry .args .own) (entry .args .successor) (entry .args .fields) _ (sym (at-of-address .of-address .ensures) ∙ (at-source .source .given .1))
+    (ap (λ (kept : Bool). Passed (record { kept = kept; onward = onwardOf (entry .args .side) (entry .args .successor) })) (and-is (eqb (entry .args .fields .reserved) 0) _)
+    ∙ sym (from-right (entry .args .side) (entry .args .own) (entry .args .successor) (entry .args .fields) _ (sym (at-of-address .of-address .ensures) ∙ (at-source .source .given .1))
     (came _ _ (at-place .place .ensures) (at-place2 .place2 .ensures) (at-comes-from .comes-from .ensures) (at-if1 .if1 .taken))))
 
 returns-3 : tie.Need-returns-3

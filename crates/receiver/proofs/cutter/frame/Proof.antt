@@ -11,7 +11,7 @@ use Rattle.receiver.proofs.cutter.frame.Statement.{statement}
 use Rattle.receiver.proofs.cutter.frame.Tie as tie
 
 wrote : (sender receiver : Position) (to from : ℕ) {w : IdentifierWritten} → to ≡ addressOf receiver → from ≡ addressOf sender
-    → w ≡ writtenAs (record { priority = 6; «data_page» = 0; format = 206; specific = to; source = from }) → w ≡ writtenAs (physicalTo sender receiver)
+    → w ≡ writtenAs (record { priority = 6; reserved = 0; «data_page» = 0; format = 206; specific = to; source = from }) → w ≡ writtenAs (physicalTo sender receiver)
 unfolding physicalTo
 wrote sender receiver to from p q h = h ∙ rw (p, q)
 

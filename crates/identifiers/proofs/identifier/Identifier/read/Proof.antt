@@ -6,7 +6,7 @@ use Rattle.identifiers.proofs.identifier.Identifier.read.Tie as tie
 
 returns : tie.Need-returns
 unfolding readOf
-returns c = c .frame-read .ensures
+returns c = c .frame-passing .ensures
 
 pub read-spec : {M : Type 1} → statement M
 read-spec = tie.close (tie.spec (λ c κs. search needs) returns)
