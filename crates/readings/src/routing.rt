@@ -87,6 +87,7 @@ fn onward_of(side: Side, successor: bool) -> Onward
     }
 }
 
+// A frame that passes: with R set it is sent on all the same, and never kept.
 fn routed_by(side: Side, own: Position, successor: bool, fields: Identifier) -> Routed
     ensures { λ r. ⌜ r ≡ routedBy side own successor fields ⌝ }
 {

@@ -1,4 +1,4 @@
--- Document 01's worked numbers that are marked P, all of them in its order, and document 02's on frames with R set, by computation on the definitions that the contracts cite.
+-- Document 01's worked numbers that are marked P, all of them in its order, and document 02's on R, by computation on the definitions that the contracts cite.
 use mathlib.Core.Path.{_≡_, refl}
 use mathlib.Core.Bool.{true, false}
 use mathlib.Core.List.{List, [], _∷_}
