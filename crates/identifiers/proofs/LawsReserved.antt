@@ -13,7 +13,7 @@ use Rattle.identifiers.specs.declared.identifier.IdentifierRead.the-vari
 use Rattle.identifiers.specs.declared.identifier.IdentifierWritten.{IdentifierWritten}
 use Rattle.identifiers.specs.declared.identifier.IdentifierWritten.the-variants as written
 use Rattle.identifiers.proofs.LawsIdentifiers.{passing-2, passing-3, passing-fields, frame-read-passing, reserved-is}
-use Rattle.identifiers.proofs.LawsInverse.{fields-widths, formula-of-fields, formula-fields}
+use Rattle.identifiers.proofs.LawsInverse.{Widths, fields-widths, formula-of-fields, formula-fields}
 
 -- ---- R set: the same number with R 0 is 2 ^ 25 less, and is read with the same refusal, or the same fields but for R
 abbrev pub withReserved : ℕ → Identifier → Identifier
@@ -35,8 +35,9 @@ module _ (n : ℕ) (set : reservedBit n ≡ 1) where
   unfolding formula
   cleared-fields h =
       let w = fields-widths n in
+      let within : Widths (withReserved 0 (fieldsOf n)) = record { priority = w .priority; reserved = lit< tt; «data_page» = w .«data_page»; format = w .format; specific = w .specific; source = w .source } in
       let e : formula (withReserved 0 (fieldsOf n)) ≡ n - 2 ^ 25 = omega (arith, formula-of-fields n h, is-set) in
-      rw (sym e) (formula-fields (withReserved 0 (fieldsOf n)) (record { priority = w .priority; reserved = lit< tt; «data_page» = w .«data_page»; format = w .format; specific = w .specific; source = w .source }))
+      rw (sym e) (formula-fields (withReserved 0 (fieldsOf n)) within)
 
   set-fields : n < 2 ^ 29 → fieldsOf n ≡ withReserved 1 (fieldsOf (n - 2 ^ 25))
   set-fields h = rw (cleared-fields h, sym is-set)

@@ -38,7 +38,7 @@ framePassing n count =
     (pick (ltb 8 count) (read.Refused (refusal 3))
     (read.Fields (fieldsOf n)))
 
--- 4 "R set", of a number that passes
+-- 4 "R set", of a number that passes; document 02, 2026-07: "4 remains for receiver and message readings, at its place"
 unfoldable pub readPassing : IdentifierRead → IdentifierRead
 readPassing (read.Fields i) = pick (eqb (i .reserved) 1) (read.Refused (refusal 4)) (read.Fields i)
 readPassing (read.Refused why) = read.Refused why

@@ -75,6 +75,10 @@ frame bytes stamp = record { identifier = 0x18CEC9EB; bytes = bytes; stamp = sta
 abbrev pub first : ℕ → Frame
 first stamp = frame (0x05 ∷ 0x10 ∷ 0x0B ∷ 0x22 ∷ 0xF1 ∷ 0x90 ∷ 0xF1 ∷ 0x87 ∷ []) stamp
 
+-- the node's answer to a whole single frame under this identifier
+abbrev pub received : ℕ → Outcome
+received n = answer node (record { identifier = n; bytes = 0x05 ∷ 0x02 ∷ 0x3E ∷ 0x00 ∷ []; stamp = 0 }) .outcome
+
 -- with a second byte `21` for number 1
 abbrev pub consecutive : ℕ → ℕ → Frame
 consecutive second stamp = frame (0x05 ∷ second ∷ 0xF1 ∷ 0x8C ∷ 0xF1 ∷ 0x95 ∷ 0xF1 ∷ 0x97 ∷ []) stamp
@@ -124,7 +128,7 @@ pub record Worked : Type 0 where
   -- "`20000000`: 2."
   pub too-large : readOf 0x20000000 ≡ read.Refused (refusal 2)
   -- "`1FFFFFFF`: 4.", by the receiver; document 02, 2026-07, changes "case `1FFFFFFF` for the reader alone"
-  pub reserved : answer node (record { identifier = 0x1FFFFFFF; bytes = 0x05 ∷ 0x02 ∷ 0x3E ∷ 0x00 ∷ []; stamp = 0 }) .outcome ≡ outcome.Refused (refusal 4)
+  pub reserved : received 0x1FFFFFFF ≡ outcome.Refused (refusal 4)
   pub reserved-read : readOf 0x1FFFFFFF ≡ read.Fields largest
   pub reserved-written : writtenAs largest ≡ written.Number 0x1FFFFFFF
   -- its source is no vehicle; the towing vehicle's `1AFE5DEB` is "sent on", and not kept
@@ -132,7 +136,7 @@ pub record Worked : Type 0 where
   pub coming-read : readOf 0x1AFE5DEB ≡ read.Fields coming
   pub coming-written : writtenAs coming ≡ written.Number 0x1AFE5DEB
   pub coming-sent-on : routeOf Predecessor 1 true 0x1AFE5DEB 0 ≡ Passed (record { kept = false; onward = ToSuccessor })
-  pub coming-received : answer node (record { identifier = 0x1AFE5DEB; bytes = 0x05 ∷ 0x02 ∷ 0x3E ∷ 0x00 ∷ []; stamp = 0 }) .outcome ≡ outcome.Refused (refusal 4)
+  pub coming-received : received 0x1AFE5DEB ≡ outcome.Refused (refusal 4)
   -- "unit 05: `05 10 0B 22 F1 90 F1 87`, `05 21 F1 8C F1 95 F1 97`: an 11-byte request."
   pub eleven : handedOut 0x21 0 0 ≡ record { at = 1; from = Zero; functional = false; bytes = request } ∷ []
   pub eleven-bytes : length request ≡ 11
