@@ -59,18 +59,10 @@ predecessor;18CEC9EB;6|\
 predecessor;18FE5DEB;1; with a successor|\
 predecessor;20000000;2; with a successor|
 route;document 02, R set, from the #: # at position ##: |\
-predecessor;1ACEC1C9;2; with a successor|\
-predecessor;1ACEC1C9;2|\
-predecessor;1ACEB9C9;2; with a successor|\
-predecessor;1ACEFFEB;2; with a successor|\
-predecessor;1AF0B9C9;2; with a successor|\
-predecessor;1ACEC1C1;2; with a successor|\
-predecessor;1ACEC1C8;2; with a successor|\
-successor;1ACEC1B9;2; with a successor|\
-successor;1ACEC1B9;2|\
-predecessor;1ACEA9B1;5; with a successor|\
-predecessor;1AFE5DEB;1; with a successor|\
-predecessor;1FFFFFFF;1; with a successor|
+predecessor;1ACEC1C9;2; with a successor|predecessor;1ACEC1C9;2|predecessor;1ACEB9C9;2; with a successor|\
+predecessor;1ACEFFEB;2; with a successor|predecessor;1AF0B9C9;2; with a successor|predecessor;1ACEC1C1;2; with a successor|\
+predecessor;1ACEC1C8;2; with a successor|successor;1ACEC1B9;2; with a successor|successor;1ACEC1B9;2|\
+predecessor;1ACEA9B1;5; with a successor|predecessor;1AFE5DEB;1; with a successor|predecessor;1FFFFFFF;1; with a successor|
 route;# bytes under # at position ##: |nine;1FFFFFFF;2; with a successor;123456789|nine;20000000;2; with a successor;123456789|
 ",
     );
