@@ -309,6 +309,115 @@ static void test_route(void)
     CHECK(model_route(0, UINT32_MAX, 1, 0, 0).refusal == 1);
 }
 
+/* ---- a whole train ------------------------------------------------------------------------- */
+
+/* A frame passed hand to hand through the towing vehicle and its trailers, and where it came, in order. */
+typedef struct {
+    uint32_t trailers, number;
+    size_t length;
+    uint8_t own[6];
+    struct {
+        uint32_t at;
+        uint8_t kept;
+    } arrivals[16];
+    size_t count;
+} train;
+
+/* "if the frame names it, is global or is a group message"; with R set no vehicle keeps it */
+static uint8_t is_kept(uint32_t number, uint8_t address)
+{
+    const uint8_t specific = (uint8_t)(number >> 8), format = (uint8_t)(number >> 16);
+    return !(number & 0x02000000u) && (format >= 240 || specific == address || specific == 255);
+}
+
+/* The vehicle at a place is handed the frame from that side of it; a trailer hands it on as its route says, the towing vehicle to nobody. */
+static void hand(train *t, uint32_t place, uint32_t side)
+{
+    CHECK(t->count < 16 && place <= t->trailers);
+    t->arrivals[t->count].at = place;
+    if (place == 0) {
+        t->arrivals[t->count++].kept = t->number < 0x20000000u && t->length <= 8 && is_kept(t->number, vehicle[0]);
+        return;
+    }
+    const model_routed r = model_route(side, t->own[place], place < t->trailers, t->number, t->length);
+    t->arrivals[t->count++].kept = r.kept;
+    if (r.sent_on == MODEL_SENT_PREDECESSOR) {
+        hand(t, place - 1, MODEL_SIDE_SUCCESSOR);
+    } else if (r.sent_on == MODEL_SENT_SUCCESSOR) {
+        hand(t, place + 1, MODEL_SIDE_PREDECESSOR);
+    }
+}
+
+/* Each trailer takes its address from the vehicle before it; then the sender hands the frame to each neighbour that it has. */
+static train sent(uint32_t trailers, uint32_t sender, uint32_t number, size_t length)
+{
+    train t = {.trailers = trailers, .number = number, .length = length};
+    for (uint32_t place = 1; place <= trailers; place++) {
+        t.own[place] = model_next_position(model_address_of(t.own[place - 1])).position;
+        CHECK(t.own[place] == place);
+    }
+    if (sender > 0) {
+        hand(&t, sender - 1, MODEL_SIDE_SUCCESSOR);
+    }
+    if (sender < trailers) {
+        hand(&t, sender + 1, MODEL_SIDE_PREDECESSOR);
+    }
+    return t;
+}
+
+/* "it comes to every other vehicle exactly once", each keeps it or not, "A frame never returns to its sender." */
+static void check_delivery(uint32_t trailers, uint32_t sender, uint32_t number, size_t length)
+{
+    const train t = sent(trailers, sender, number, length);
+    uint8_t times[6] = {0};
+    for (size_t i = 0; i < t.count; i++) {
+        times[t.arrivals[i].at]++;
+        CHECK(t.arrivals[i].kept == is_kept(number, vehicle[t.arrivals[i].at]));
+    }
+    for (uint32_t place = 0; place < 6; place++) {
+        CHECK(times[place] == (place <= trailers && place != sender));
+    }
+}
+
+/* Where it comes, in order, and who of them keeps it. */
+static void check_arrivals(train t, const char *at, const char *kept)
+{
+    char came[17] = "", keeps[17] = "";
+    for (size_t i = 0; i < t.count; i++) {
+        came[i] = (char)('0' + t.arrivals[i].at);
+        keeps[i] = t.arrivals[i].kept ? '+' : '-';
+    }
+    CHECK(strcmp(came, at) == 0 && strcmp(keeps, kept) == 0);
+}
+
+static void test_train(void)
+{
+    static const uint8_t formats[] = {0, 205, 206, 239, 240, 254, 255};
+    for (uint32_t trailers = 0; trailers <= 5; trailers++) {
+        for (uint32_t sender = 0; sender <= trailers; sender++) {
+            for (size_t f = 0; f < sizeof formats; f++) {
+                for (uint32_t specific = 0; specific < 256; specific++) {
+                    const uint32_t number = below(8) << 26 | below(2) << 24 | (uint32_t)formats[f] << 16 |
+                                            specific << 8 | vehicle[sender];
+                    check_delivery(trailers, sender, number, below(9));
+                    check_delivery(trailers, sender, number | 0x02000000u, below(9));
+                }
+            }
+        }
+    }
+    check_arrivals(sent(5, 2, 0x18CEB9C1, 8), "10345", "--+--");
+    check_arrivals(sent(5, 2, 0x18CDFFC1, 8), "10345", "+++++");
+    check_arrivals(sent(5, 2, 0x1ACDFFC1, 8), "10345", "-----");
+    check_arrivals(sent(2, 0, 0x18FE5DEB, 8), "12", "++");
+    check_arrivals(sent(2, 1, 0x18CEC9C9, 8), "02", "--");
+    check_arrivals(sent(5, 5, 0x18CEEBA9, 8), "43210", "----+");
+    check_arrivals(sent(0, 0, 0x18CEC9EB, 8), "", "");
+    /* what 2 or 3 refuses comes to the sender's neighbours alone, and nobody keeps it */
+    check_arrivals(sent(5, 2, 0x38CDFFC1, 8), "13", "--");
+    check_arrivals(sent(5, 2, 0x18CDFFC1, 9), "13", "--");
+    check_arrivals(sent(5, 1, 0x18CDFFC9, 9), "02", "--");
+}
+
 /* ---- readings ------------------------------------------------------------------------------ */
 
 static void test_readings(void)
@@ -2034,6 +2143,7 @@ int main(int argc, char **argv)
     test_identifier();
     test_vehicle();
     test_route();
+    test_train();
     test_readings();
     test_node();
     test_receiver_worked();

@@ -2,6 +2,7 @@
 pub mod LawsPositions
 pub mod LawsFormula
 pub mod LawsRoutes
+pub mod LawsAnswers
 pub mod LawsFractions
 pub mod LawsWholes
 pub mod LawsOutcomes

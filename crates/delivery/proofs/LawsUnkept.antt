@@ -1,0 +1,113 @@
+-- Frames that nobody keeps: one with R set comes to all to whom the same with R 0 does, and one that 2 or 3 refuses to the sender's neighbours alone.
+use mathlib.Core.Path.{_≡_, refl, sym, ap, ap₂, _∙_}
+use mathlib.Core.Bool.{Bool, true, false}
+use mathlib.Core.List.{List, [], _∷_, _++_, map-append}
+use mathlib.Core.Logic.{_⊎_, inl, inr}
+use Prim.Native.Nat.{ℕ, zero, suc, _-_, _^_, _≤_, _<_}
+use native.Mathlib.Decide.{decLt}
+use native.Mathlib.Omega.{arith}
+use Rattle.identifiers.specs.Choice.{pick, both}
+use Rattle.identifiers.specs.Identifiers.{reservedBit, framePassing}
+use Rattle.identifiers.specs.Refusals.{refusal}
+use Rattle.identifiers.specs.declared.refusal.Refusal.{Refusal}
+use Rattle.identifiers.specs.declared.identifier.IdentifierRead.{IdentifierRead}
+use Rattle.identifiers.specs.declared.identifier.IdentifierRead.the-variants as read
+use Rattle.identifiers.proofs.LawsIdentifiers.{passing-2, passing-3}
+use Rattle.identifiers.proofs.LawsReserved.{withReserved, readSet, set-passing}
+use Rattle.readings.specs.declared.position.Position.{Position}
+use Rattle.readings.specs.declared.position.Position.the-variants.{Zero}
+use Rattle.readings.specs.declared.position.Vehicle.{Vehicle}
+use Rattle.readings.specs.declared.position.Vehicle.the-variants.{At, NoVehicle}
+use Rattle.readings.specs.declared.routing.Passage.{Passage}
+use Rattle.readings.specs.declared.routing.Side.{Side}
+use Rattle.readings.specs.declared.routing.Side.the-variants.{Predecessor, Successor}
+use Rattle.readings.specs.declared.routing.Onward.{Onward}
+use Rattle.readings.specs.declared.routing.Onward.the-variants.{Nowhere, ToPredecessor, ToSuccessor}
+use Rattle.readings.specs.declared.routing.Routed.{Routed}
+use Rattle.readings.specs.declared.routing.Routed.the-variants.{Passed, Neither, Refused}
+use Rattle.readings.specs.Positions.{placeOf}
+use Rattle.readings.specs.Routes.{ownPosition, routeOf}
+use Rattle.readings.proofs.LawsRoutes.{route-1, route-refused}
+use Rattle.readings.proofs.LawsAnswers.{passage-is}
+use Rattle.readings.proofs.LawsReserved as reserved
+use Rattle.delivery.specs.Hands.{Arrival, keptBy, onwardBy, sentOn, keptByTowing, hasSuccessor, routeAt, handed, toPredecessor, toSuccessor, delivered}
+use Rattle.delivery.specs.Delivery.{unkept}
+
+-- ---- what holds of the frame in every vehicle's hands holds of it as it is sent
+unkept-pick : (t : Bool) (a b : List Arrival) → a ≡ unkept b → pick t a [] ≡ unkept (pick t b [])
+unfolding pick
+unkept-pick true a b e = e
+unkept-pick false a b e = refl
+
+module _ (n number less count hands fewer : ℕ) (each : (place : ℕ) (side : Side) → handed n number count hands place side ≡ unkept (handed n less count fewer place side)) where
+  to-predecessor : (place : ℕ) → toPredecessor n number count hands place ≡ unkept (toPredecessor n less count fewer place)
+  unfolding toPredecessor
+  to-predecessor zero = refl
+  to-predecessor (suc place) = each place Successor
+
+  pub sent-unkept : (q : Position) → delivered n number count hands q ≡ unkept (delivered n less count fewer q)
+  unfolding delivered toSuccessor
+  sent-unkept q =
+      ap₂ _++_ (to-predecessor (placeOf q)) (unkept-pick (hasSuccessor n (placeOf q)) _ _ (each (suc (placeOf q)) Predecessor))
+      ∙ sym (map-append _ (toPredecessor n less count fewer (placeOf q)) _)
+
+-- ---- R set: the same frame with R 0 is, as a number, 2 ^ 25 less
+set-kept : (r : Routed) → keptBy (reserved.unkept r) ≡ false
+unfolding keptBy
+set-kept (Passed p) = refl
+set-kept Neither = refl
+set-kept (Refused why) = refl
+
+set-onward : (r : Routed) → onwardBy (reserved.unkept r) ≡ onwardBy r
+unfolding onwardBy
+set-onward (Passed p) = refl
+set-onward Neither = refl
+set-onward (Refused why) = refl
+
+set-towing : (answer : IdentifierRead) → keptByTowing (readSet answer) ≡ false
+unfolding keptByTowing both
+set-towing (read.Fields i) = ap (λ (x : Passage). x .kept) (passage-is Successor Zero true (withReserved 1 i))
+set-towing (read.Refused why) = refl
+
+unkept-on : (o p : Onward) (a b c d : List Arrival) → o ≡ p → a ≡ unkept c → b ≡ unkept d → sentOn o a b ≡ unkept (sentOn p c d)
+unfolding sentOn
+unkept-on o Nowhere a b c d e f g = rw e
+unkept-on o ToPredecessor a b c d e f g = rw e f
+unkept-on o ToSuccessor a b c d e f g = rw e g
+
+pub handed-set : (n number count : ℕ) → reservedBit number ≡ 1 → (hands place : ℕ) (side : Side) → handed n number count hands place side ≡ unkept (handed n (number - 2 ^ 25) count hands place side)
+unfolding handed
+handed-set n number count set zero place side = refl
+handed-set n number count set (suc hands) zero side =
+    ap (λ (k : Bool). record { at = 0; kept = k } ∷ []) (ap keptByTowing (set-passing number set count) ∙ set-towing (framePassing (number - 2 ^ 25) count))
+handed-set n number count set (suc hands) (suc p) side =
+    let r = routeAt n (number - 2 ^ 25) count (suc p) side in
+    let e = reserved.reserved-sent-on side (suc p) (hasSuccessor n (suc p)) number count set in
+    ap₂ (λ (k : Bool) (l : List Arrival). record { at = suc p; kept = k } ∷ l) (ap keptBy e ∙ set-kept r)
+    (unkept-on _ _ _ _ _ _ (ap onwardBy e ∙ set-onward r) (handed-set n number count set hands p Successor) (handed-set n number count set hands (suc (suc p)) Predecessor))
+
+-- ---- refused by 2 or 3: at every place, by one of these or by 1
+pub refused-read : (number count : ℕ) → (2 ^ 29 ≤ number) ⊎ (8 < count) → (why : Refusal) × (framePassing number count ≡ read.Refused why)
+refused-read number count (inl h) = (refusal 2, passing-2 number count h)
+refused-read number count (inr h) = go (decLt number (2 ^ 29))
+  where
+    go : Dec (number < 2 ^ 29) → (why : Refusal) × (framePassing number count ≡ read.Refused why)
+    go (yes l) = (refusal 3, passing-3 number count l h)
+    go (no l) = (refusal 2, passing-2 number count (omega arith))
+
+refused-at : (side : Side) (place : ℕ) (behind : Bool) (number count : ℕ) (why : Refusal) → framePassing number count ≡ read.Refused why
+    → (other : Refusal) × (routeOf side place behind number count ≡ Refused other)
+refused-at side place behind number count why e = go (ownPosition place behind) refl
+  where
+    go : (v : Vehicle) → ownPosition place behind ≡ v → (other : Refusal) × (routeOf side place behind number count ≡ Refused other)
+    go (At p) own = (why, route-refused side place behind number count p why own e)
+    go NoVehicle own = (refusal 1, route-1 side place behind number count own)
+
+-- one hand, and no more
+pub handed-refused : (n number count : ℕ) (why : Refusal) → framePassing number count ≡ read.Refused why → (hands place : ℕ) (side : Side)
+    → handed n number count (suc hands) place side ≡ unkept (handed n number count 1 place side)
+unfolding handed keptBy onwardBy sentOn keptByTowing
+handed-refused n number count why e hands zero side = ap (λ (answer : IdentifierRead). record { at = 0; kept = keptByTowing answer } ∷ []) e
+handed-refused n number count why e hands (suc p) side =
+    let r = refused-at side (suc p) (hasSuccessor n (suc p)) number count why e in
+    rw (r .1)

@@ -1,0 +1,9 @@
+-- Laws of hands and arrivals, worked numbers, and the theorems of delivery.
+pub mod LawsRoutesAt
+pub mod LawsHands
+pub mod LawsCircle
+pub mod LawsComes
+pub mod LawsUnkept
+pub mod LawsDelivers
+pub mod Examples
+pub mod Delivered
