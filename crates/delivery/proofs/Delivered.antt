@@ -81,12 +81,12 @@ pub no-circle : NoCircle
 no-circle n number count q within hands enough = ends n number count hands n q within enough (omega arith)
 
 pub set-same-arrivals : SetSameArrivals
-set-same-arrivals n number count q hands set = sent-unkept n number (number - 2 ^ 25) count hands hands (handed-set n number count set hands) q
+set-same-arrivals n number count q hands set = sent-unkept n number (number - 2 ^ 25) count hands hands q (handed-set n number count set hands)
 
 pub refused-stopped : RefusedStopped
 refused-stopped n number count q hands h =
     let r = refused-read number count h in
-    sent-unkept n number number count (suc hands) 1 (handed-refused n number count (r .0) (r .1) hands) q
+    sent-unkept n number number count (suc hands) 1 q (handed-refused n number count (r .0) (r .1) hands)
 
 pub right-addresses : RightAddresses
 right-addresses p q e = after-next (addressOf p) p q (address-back p) (successor-found p q (omega arith))

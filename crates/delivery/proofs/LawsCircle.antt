@@ -1,12 +1,10 @@
 -- Whatever stands in a frame, it goes on to the other side or nowhere: more hands than there are vehicles on that side make no more arrivals.
-use mathlib.Core.Path.{_≡_, refl, sym, ap, ap₂, _∙_}
+use mathlib.Core.Path.{_≡_, refl, ap, _∙_}
 use mathlib.Core.Bool.{Bool, true, false}
-use mathlib.Core.List.{List, [], _∷_, _++_}
+use mathlib.Core.List.{List, _∷_}
 use mathlib.Core.Logic.{_⊎_, inl, inr}
 use Prim.Native.Nat.{ℕ, zero, suc, _+_, _-_, _≤_, _<_}
 use native.Mathlib.Omega.{arith}
-use Rattle.identifiers.specs.Choice.{pick}
-use Rattle.identifiers.proofs.LawsChoice.{pick-false}
 use Rattle.identifiers.specs.Identifiers.{framePassing}
 use Rattle.identifiers.specs.declared.identifier.Identifier.{Identifier}
 use Rattle.identifiers.specs.declared.identifier.IdentifierRead.{IdentifierRead}
@@ -23,8 +21,9 @@ use Rattle.readings.specs.Positions.{placeOf, positionOf}
 use Rattle.readings.specs.Routes.{ownPosition, comesFrom, onwardOf, routedBy, routeOf}
 use Rattle.readings.proofs.LawsRoutes.{from-none, from-wrong, from-right, route-1, route-refused, route-read, sent-on}
 use Rattle.readings.proofs.LawsAnswers.{passage-is}
-use Rattle.delivery.specs.Hands.{Arrival, keptBy, onwardBy, sentOn, hasSuccessor, routeAt, handed, toPredecessor, toSuccessor, delivered}
+use Rattle.delivery.specs.Hands.{Arrival, keptBy, onwardBy, sentOn, hasSuccessor, routeAt, handed, delivered}
 use Rattle.delivery.proofs.LawsRoutesAt.{before-the-last}
+use Rattle.delivery.proofs.LawsNeighbours.{by-neighbours}
 
 -- ---- any route: on to the other side, or nowhere
 abbrev GoesOn : Side → Bool → Onward → Type 0
@@ -83,21 +82,7 @@ module _ (n number count : ℕ) where
       (same-behind _ (hasSuccessor n (suc p)) _ _ _ _ (goes-on Predecessor (hasSuccessor n (suc p)) (suc p) number count)
       (λ (h : hasSuccessor n (suc p) ≡ true). let k = before-the-last n (suc p) h in ends-behind a b (more - 1) (suc (suc p)) (omega arith) (omega arith) (omega arith)))
 
-  ends-to-predecessor : (a b place : ℕ) → place ≤ a → place ≤ b → toPredecessor n number count a place ≡ toPredecessor n number count b place
-  unfolding toPredecessor
-  ends-to-predecessor a b zero l m = refl
-  ends-to-predecessor a b (suc p) l m = ends-ahead a b p (omega arith) (omega arith)
-
-  ends-to-successor : (a b place : ℕ) → n ≤ a → n ≤ b → toSuccessor n number count a place ≡ toSuccessor n number count b place
-  unfolding toSuccessor
-  ends-to-successor a b place l m = go (hasSuccessor n place) refl
-    where
-      go : (t : Bool) → hasSuccessor n place ≡ t → pick (hasSuccessor n place) (handed n number count a (suc place) Predecessor) [] ≡ pick (hasSuccessor n place) (handed n number count b (suc place) Predecessor) []
-      go true h =
-          let k = before-the-last n place h in
-          ap (λ (rest : List Arrival). pick (hasSuccessor n place) rest []) (ends-behind a b (n - suc place) (suc place) (omega arith) (omega arith) (omega arith))
-      go false h = pick-false _ _ h ∙ sym (pick-false _ _ h)
-
   pub ends : (a b : ℕ) (q : Position) → placeOf q ≤ n → n ≤ a → n ≤ b → delivered n number count a q ≡ delivered n number count b q
-  unfolding delivered
-  ends a b q within l m = ap₂ _++_ (ends-to-predecessor a b (placeOf q) (omega arith) (omega arith)) (ends-to-successor a b (placeOf q) l m)
+  ends a b q within l m =
+      by-neighbours n number number count a b (λ arrivals. arrivals) refl (λ x y. refl) q (λ p (e : placeOf q ≡ suc p). ends-ahead a b p (omega arith) (omega arith))
+      (λ (h : hasSuccessor n (placeOf q) ≡ true). let k = before-the-last n (placeOf q) h in ends-behind a b (n - suc (placeOf q)) (suc (placeOf q)) (omega arith) (omega arith) (omega arith))

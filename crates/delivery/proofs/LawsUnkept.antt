@@ -1,12 +1,12 @@
 -- Frames that nobody keeps: one with R set comes to all to whom the same with R 0 does, and one that 2 or 3 refuses to the sender's neighbours alone.
-use mathlib.Core.Path.{_≡_, refl, sym, ap, ap₂, _∙_}
+use mathlib.Core.Path.{_≡_, refl, ap, ap₂, _∙_}
 use mathlib.Core.Bool.{Bool, true, false}
-use mathlib.Core.List.{List, [], _∷_, _++_, map-append}
+use mathlib.Core.List.{List, [], _∷_, map-append}
 use mathlib.Core.Logic.{_⊎_, inl, inr}
 use Prim.Native.Nat.{ℕ, zero, suc, _-_, _^_, _≤_, _<_}
 use native.Mathlib.Decide.{decLt}
 use native.Mathlib.Omega.{arith}
-use Rattle.identifiers.specs.Choice.{pick, both}
+use Rattle.identifiers.specs.Choice.{both}
 use Rattle.identifiers.specs.Identifiers.{reservedBit, framePassing}
 use Rattle.identifiers.specs.Refusals.{refusal}
 use Rattle.identifiers.specs.declared.refusal.Refusal.{Refusal}
@@ -30,26 +30,15 @@ use Rattle.readings.specs.Routes.{ownPosition, routeOf}
 use Rattle.readings.proofs.LawsRoutes.{route-1, route-refused}
 use Rattle.readings.proofs.LawsAnswers.{passage-is}
 use Rattle.readings.proofs.LawsReserved as reserved
-use Rattle.delivery.specs.Hands.{Arrival, keptBy, onwardBy, sentOn, keptByTowing, hasSuccessor, routeAt, handed, toPredecessor, toSuccessor, delivered}
+use Rattle.delivery.specs.Hands.{Arrival, keptBy, onwardBy, sentOn, keptByTowing, hasSuccessor, routeAt, handed, delivered}
 use Rattle.delivery.specs.Delivery.{unkept}
+use Rattle.delivery.proofs.LawsNeighbours.{by-neighbours}
 
--- ---- what holds of the frame in every vehicle's hands holds of it as it is sent
-unkept-pick : (t : Bool) (a b : List Arrival) → a ≡ unkept b → pick t a [] ≡ unkept (pick t b [])
-unfolding pick
-unkept-pick true a b e = e
-unkept-pick false a b e = refl
-
-module _ (n number less count hands fewer : ℕ) (each : (place : ℕ) (side : Side) → handed n number count hands place side ≡ unkept (handed n less count fewer place side)) where
-  to-predecessor : (place : ℕ) → toPredecessor n number count hands place ≡ unkept (toPredecessor n less count fewer place)
-  unfolding toPredecessor
-  to-predecessor zero = refl
-  to-predecessor (suc place) = each place Successor
-
-  pub sent-unkept : (q : Position) → delivered n number count hands q ≡ unkept (delivered n less count fewer q)
-  unfolding delivered toSuccessor
-  sent-unkept q =
-      ap₂ _++_ (to-predecessor (placeOf q)) (unkept-pick (hasSuccessor n (placeOf q)) _ _ (each (suc (placeOf q)) Predecessor))
-      ∙ sym (map-append _ (toPredecessor n less count fewer (placeOf q)) _)
+-- ---- what each vehicle makes of the frame, all make of it
+pub sent-unkept : (n number other count hands more : ℕ) (q : Position) → ((place : ℕ) (side : Side) → handed n number count hands place side ≡ unkept (handed n other count more place side))
+    → delivered n number count hands q ≡ unkept (delivered n other count more q)
+sent-unkept n number other count hands more q each =
+    by-neighbours n number other count hands more unkept refl (map-append _) q (λ p e. each p Successor) (λ e. each (suc (placeOf q)) Predecessor)
 
 -- ---- R set: the same frame with R 0 is, as a number, 2 ^ 25 less
 set-kept : (r : Routed) → keptBy (reserved.unkept r) ≡ false

@@ -1,6 +1,7 @@
 -- Laws of hands and arrivals, worked numbers, and the theorems of delivery.
 pub mod LawsRoutesAt
 pub mod LawsHands
+pub mod LawsNeighbours
 pub mod LawsCircle
 pub mod LawsComes
 pub mod LawsUnkept
