@@ -365,17 +365,34 @@ static train sent(uint32_t trailers, uint32_t sender, uint32_t number, size_t le
     return t;
 }
 
+/* How often it came to the vehicle at a place. */
+static uint32_t times_at(const train *t, uint32_t place)
+{
+    uint32_t times = 0;
+    for (size_t i = 0; i < t->count; i++) {
+        times += t->arrivals[i].at == place;
+    }
+    return times;
+}
+
 /* "it comes to every other vehicle exactly once", each keeps it or not, "A frame never returns to its sender." */
 static void check_delivery(uint32_t trailers, uint32_t sender, uint32_t number, size_t length)
 {
     const train t = sent(trailers, sender, number, length);
-    uint8_t times[6] = {0};
+    for (uint32_t place = 0; place < 6; place++) {
+        CHECK(times_at(&t, place) == (place <= trailers && place != sender));
+    }
     for (size_t i = 0; i < t.count; i++) {
-        times[t.arrivals[i].at]++;
         CHECK(t.arrivals[i].kept == is_kept(number, vehicle[t.arrivals[i].at]));
     }
+}
+
+/* Whatever SA it bears, it comes to no vehicle twice and never to its sender. */
+static void check_once(uint32_t trailers, uint32_t sender, uint32_t number, size_t length)
+{
+    const train t = sent(trailers, sender, number, length);
     for (uint32_t place = 0; place < 6; place++) {
-        CHECK(times[place] == (place <= trailers && place != sender));
+        CHECK(times_at(&t, place) <= (place <= trailers && place != sender));
     }
 }
 
@@ -401,6 +418,8 @@ static void test_train(void)
                                             specific << 8 | vehicle[sender];
                     check_delivery(trailers, sender, number, below(9));
                     check_delivery(trailers, sender, number | 0x02000000u, below(9));
+                    check_once(trailers, sender, (number & ~0xFFu) | specific, below(11));
+                    check_once(trailers, sender, any(), below(11));
                 }
             }
         }

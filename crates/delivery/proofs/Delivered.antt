@@ -1,5 +1,5 @@
 -- Delivery through the whole train, proved: each statement of `Delivery`.
-use mathlib.Core.Path.{_≡_, sym, ap, ap₂, _∙_}
+use mathlib.Core.Path.{_≡_, refl, sym, ap, ap₂, _∙_}
 use mathlib.Core.Bool.{Bool, true}
 use mathlib.Core.List.{List, [], _∷_, _++_, head-eq-of-cons-eq}
 use mathlib.Core.Logic.{_≢_, _⊎_, inl, inr}
@@ -18,12 +18,13 @@ use Rattle.readings.specs.Routes.{Keeps}
 use Rattle.readings.proofs.LawsPositions.{address-back, places-differ, successor-found, after-next}
 use Rattle.readings.proofs.LawsAnswers.{told-passed, told-neither, told-refused}
 use Rattle.delivery.specs.Hands.{keptBy, onwardBy, delivered}
-use Rattle.delivery.specs.Delivery.{comesTo, Delivers, Sent, HandToHand, NoCircle, OneDelivery, NamesOne, SetSameArrivals, RefusedStopped, RightAddresses, ToldAlike}
+use Rattle.delivery.specs.Delivery.{comesTo, Delivers, Sent, HandToHand, OneDelivery, NamesOne, NoCircle, NeverTwice, NeverBack, SetSameArrivals, RefusedStopped, RightAddresses, ToldAlike}
 use Rattle.delivery.proofs.LawsRoutesAt.{keeps, keepsAt, keeps-at, keeps-exactly}
 use Rattle.delivery.proofs.LawsHands.{before, from, delivered-is}
 use Rattle.delivery.proofs.LawsCircle.{ends}
 use Rattle.delivery.proofs.LawsComes.{comes-append, not-before, before-once, not-from, from-once}
 use Rattle.delivery.proofs.LawsDelivers.{not-kept, same-everywhere, names-no-other}
+use Rattle.delivery.proofs.LawsTwice.{at-most-once, not-to-the-sender}
 use Rattle.delivery.proofs.LawsUnkept.{sent-unkept, handed-set, refused-read, handed-refused}
 
 -- ---- a frame that the vehicle q sends: what comes to a place comes from ahead of q or from behind it
@@ -65,7 +66,7 @@ module _ (n number count : ℕ) (q : Position) (s : Sent n number count q) (hand
             λ p most other.
             let is = to-other p most other in
             (λ (e : to (placeOf p) ≡ true ∷ []). keeps-exactly number p .0 (head-eq-of-cons-eq (sym is ∙ e)), λ k. is ∙ ap (λ (k : Bool). k ∷ []) (keeps-exactly number p .1 k));
-        never-returns = halves (placeOf q) (not-ahead (placeOf q) (omega arith)) (not-behind (placeOf q) (inl (omega arith)));
+        never-returns = not-to-the-sender n number count (placeOf q) hands q refl;
       }
 
 pub hand-to-hand : HandToHand
@@ -79,6 +80,12 @@ names-one n number q arrivals d r h own p most other apart = not-kept n number q
 
 pub no-circle : NoCircle
 no-circle n number count q within hands enough = ends n number count hands n q within enough (omega arith)
+
+pub never-twice : NeverTwice
+never-twice n number count hands q place = at-most-once n number count place hands q
+
+pub never-back : NeverBack
+never-back n number count hands q = not-to-the-sender n number count (placeOf q) hands q refl
 
 pub set-same-arrivals : SetSameArrivals
 set-same-arrivals n number count q hands set = sent-unkept n number (number - 2 ^ 25) count hands hands q (handed-set n number count set hands)

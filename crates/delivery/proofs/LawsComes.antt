@@ -15,11 +15,11 @@ use Rattle.delivery.proofs.LawsRoutesAt.{keepsAt}
 use Rattle.delivery.proofs.LawsHands.{arrival, before, from}
 
 -- ---- the first comes to that place, or to another; and two lists in a row
-comes-here : (place : ℕ) (a : Arrival) (arrivals : List Arrival) → a .at ≡ place → comesTo place (a ∷ arrivals) ≡ a .kept ∷ comesTo place arrivals
+pub comes-here : (place : ℕ) (a : Arrival) (arrivals : List Arrival) → a .at ≡ place → comesTo place (a ∷ arrivals) ≡ a .kept ∷ comesTo place arrivals
 unfolding comesTo
 comes-here place a arrivals e = pick-true _ _ (eq-eqb (a .at) place e)
 
-comes-else : (place : ℕ) (a : Arrival) (arrivals : List Arrival) → (a .at ≡ place → ⊥) → comesTo place (a ∷ arrivals) ≡ comesTo place arrivals
+pub comes-else : (place : ℕ) (a : Arrival) (arrivals : List Arrival) → (a .at ≡ place → ⊥) → comesTo place (a ∷ arrivals) ≡ comesTo place arrivals
 unfolding comesTo
 comes-else place a arrivals e = pick-false _ _ (ne-eqb (a .at) place e)
 

@@ -2,8 +2,10 @@
 pub mod LawsRoutesAt
 pub mod LawsHands
 pub mod LawsNeighbours
+pub mod LawsSides
 pub mod LawsCircle
 pub mod LawsComes
+pub mod LawsTwice
 pub mod LawsUnkept
 pub mod LawsDelivers
 pub mod Examples

@@ -61,6 +61,13 @@ RightAddresses = (p q : Position) → placeOf q ≡ suc (placeOf p) → takenAft
 abbrev pub NoCircle : Type 0
 NoCircle = (n number count : ℕ) (q : Position) → placeOf q ≤ n → (hands : ℕ) → n ≤ hands → delivered n number count hands q ≡ delivered n number count n q
 
+-- It comes to no vehicle twice, and never back to its sender: also where its SA is another's, or nobody's.
+abbrev pub NeverTwice : Type 0
+NeverTwice = (n number count hands : ℕ) (q : Position) (place : ℕ) → length (comesTo place (delivered n number count hands q)) ≤ 1
+
+abbrev pub NeverBack : Type 0
+NeverBack = (n number count hands : ℕ) (q : Position) → comesTo (placeOf q) (delivered n number count hands q) ≡ []
+
 -- the same arrivals, but nobody keeps it
 abbrev pub unkept : List Arrival → List Arrival
 unkept arrivals = map (λ (a : Arrival). record { at = a .at; kept = false }) arrivals

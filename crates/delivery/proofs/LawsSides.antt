@@ -1,0 +1,71 @@
+-- Whatever stands in a frame, a route sends it on to the other side or nowhere: so what comes of it is what comes of it there, or nothing.
+use mathlib.Core.Path.{_≡_, refl, ap, _∙_}
+use mathlib.Core.Bool.{Bool, true, false}
+use mathlib.Core.List.{List, []}
+use mathlib.Core.Logic.{_⊎_, inl, inr}
+use Prim.Native.Nat.{ℕ, suc}
+use Rattle.identifiers.specs.Identifiers.{framePassing}
+use Rattle.identifiers.specs.declared.identifier.Identifier.{Identifier}
+use Rattle.identifiers.specs.declared.identifier.IdentifierRead.{IdentifierRead}
+use Rattle.identifiers.specs.declared.identifier.IdentifierRead.the-variants as read
+use Rattle.readings.specs.declared.position.Position.{Position}
+use Rattle.readings.specs.declared.position.Vehicle.{Vehicle}
+use Rattle.readings.specs.declared.position.Vehicle.the-variants.{At, NoVehicle}
+use Rattle.readings.specs.declared.routing.Passage.{Passage}
+use Rattle.readings.specs.declared.routing.Side.{Side}
+use Rattle.readings.specs.declared.routing.Side.the-variants.{Predecessor, Successor}
+use Rattle.readings.specs.declared.routing.Onward.{Onward}
+use Rattle.readings.specs.declared.routing.Onward.the-variants.{Nowhere}
+use Rattle.readings.specs.Positions.{placeOf, positionOf}
+use Rattle.readings.specs.Routes.{ownPosition, comesFrom, onwardOf, routedBy, routeOf}
+use Rattle.readings.proofs.LawsRoutes.{from-none, from-wrong, from-right, route-1, route-refused, route-read, sent-on}
+use Rattle.readings.proofs.LawsAnswers.{passage-is}
+use Rattle.delivery.specs.Hands.{Arrival, onwardBy, sentOn, hasSuccessor, routeAt, handed}
+
+-- ---- any route
+abbrev GoesOn : Side → Bool → Onward → Type 0
+GoesOn side behind onward = (onward ≡ Nowhere) ⊎ (onward ≡ onwardOf side behind)
+
+module _ (side : Side) (behind : Bool) where
+  from-vehicle : (p x : Position) (i : Identifier) → positionOf (i .source) ≡ At x → (t : Bool) → comesFrom side (placeOf p) behind (placeOf x) ≡ t → GoesOn side behind (onwardBy (routedBy side p behind i))
+  unfolding onwardBy
+  from-vehicle p x i e true t = inr (ap onwardBy (from-right side p behind i x e t) ∙ ap (λ (y : Passage). y .onward) (passage-is side p behind i))
+  from-vehicle p x i e false t = inl (ap onwardBy (from-wrong side p behind i x e t))
+
+  by-source : (p : Position) (i : Identifier) (v : Vehicle) → positionOf (i .source) ≡ v → GoesOn side behind (onwardBy (routedBy side p behind i))
+  unfolding onwardBy
+  by-source p i NoVehicle e = inl (ap onwardBy (from-none side p behind i e))
+  by-source p i (At x) e = from-vehicle p x i e (comesFrom side (placeOf p) behind (placeOf x)) refl
+
+  goes-on : (place number count : ℕ) → GoesOn side behind (onwardBy (routeOf side place behind number count))
+  unfolding onwardBy
+  goes-on place number count = go (ownPosition place behind) (framePassing number count) refl refl
+    where
+      go : (v : Vehicle) (answer : IdentifierRead) → ownPosition place behind ≡ v → framePassing number count ≡ answer → GoesOn side behind (onwardBy (routeOf side place behind number count))
+      go NoVehicle answer own e = inl (ap onwardBy (route-1 side place behind number count own))
+      go (At p) (read.Refused why) own e = inl (ap onwardBy (route-refused side place behind number count p why own e))
+      go (At p) (read.Fields i) own e = rw (route-read side place behind number count p i own e) (by-source p i (positionOf (i .source)) refl)
+
+-- ---- what comes of a frame behind its arrival at a trailer
+module _ (n number count : ℕ) where
+  abbrev pub rest : ℕ → ℕ → Side → List Arrival
+  rest hands p side = sentOn (onwardBy (routeAt n number count (suc p) side)) (handed n number count hands p Successor) (handed n number count hands (suc (suc p)) Predecessor)
+
+-- for two numbers of hands: what holds of nothing, and of the hands of the neighbour on the other side, holds of it
+module _ (n number count : ℕ) (R : List Arrival → List Arrival → Type 0) (none : R [] []) where
+  ahead : (o : Onward) (behind : Bool) (a b c d : List Arrival) → GoesOn Successor behind o → R a c → R (sentOn o a b) (sentOn o c d)
+  unfolding sentOn
+  ahead o behind a b c d (inl e) some = rw e none
+  ahead o behind a b c d (inr e) some = rw (e ∙ sent-on .1 .1 behind) some
+
+  behind : (o : Onward) (behind : Bool) (a b c d : List Arrival) → GoesOn Predecessor behind o → (behind ≡ true → R b d) → R (sentOn o a b) (sentOn o c d)
+  unfolding sentOn
+  behind o t a b c d (inl e) some = rw e none
+  behind o true a b c d (inr e) some = rw (e ∙ sent-on .0) (some refl)
+  behind o false a b c d (inr e) some = rw (e ∙ sent-on .1 .0) none
+
+  pub from-behind : (a b p : ℕ) → R (handed n number count a p Successor) (handed n number count b p Successor) → R (rest n number count a p Successor) (rest n number count b p Successor)
+  from-behind a b p = ahead _ (hasSuccessor n (suc p)) _ _ _ _ (goes-on Successor (hasSuccessor n (suc p)) (suc p) number count)
+
+  pub from-ahead : (a b p : ℕ) → (hasSuccessor n (suc p) ≡ true → R (handed n number count a (suc (suc p)) Predecessor) (handed n number count b (suc (suc p)) Predecessor)) → R (rest n number count a p Predecessor) (rest n number count b p Predecessor)
+  from-ahead a b p = behind _ (hasSuccessor n (suc p)) _ _ _ _ (goes-on Predecessor (hasSuccessor n (suc p)) (suc p) number count)
