@@ -348,7 +348,18 @@ static void hand(train *t, uint32_t place, uint32_t side)
     }
 }
 
-/* Each trailer takes its address from the vehicle before it; then the sender hands the frame to each neighbour that it has. */
+/* The sender hands the frame to each neighbour that it has. */
+static void hand_out(train *t, uint32_t sender)
+{
+    if (sender > 0) {
+        hand(t, sender - 1, MODEL_SIDE_SUCCESSOR);
+    }
+    if (sender < t->trailers) {
+        hand(t, sender + 1, MODEL_SIDE_PREDECESSOR);
+    }
+}
+
+/* Sent in a train where each trailer has taken its address from the vehicle before it. */
 static train sent(uint32_t trailers, uint32_t sender, uint32_t number, size_t length)
 {
     train t = {.trailers = trailers, .number = number, .length = length};
@@ -356,12 +367,7 @@ static train sent(uint32_t trailers, uint32_t sender, uint32_t number, size_t le
         t.own[place] = model_next_position(model_address_of(t.own[place - 1])).position;
         CHECK(t.own[place] == place);
     }
-    if (sender > 0) {
-        hand(&t, sender - 1, MODEL_SIDE_SUCCESSOR);
-    }
-    if (sender < trailers) {
-        hand(&t, sender + 1, MODEL_SIDE_PREDECESSOR);
-    }
+    hand_out(&t, sender);
     return t;
 }
 
@@ -387,10 +393,15 @@ static void check_delivery(uint32_t trailers, uint32_t sender, uint32_t number, 
     }
 }
 
-/* Whatever SA it bears, it comes to no vehicle twice and never to its sender. */
+/* Whatever SA it bears and whatever positions the trailers have, it comes to no vehicle twice and never to its sender. */
 static void check_once(uint32_t trailers, uint32_t sender, uint32_t number, size_t length)
 {
-    const train t = sent(trailers, sender, number, length);
+    train t = {.trailers = trailers, .number = number, .length = length};
+    const uint8_t same = (uint8_t)below(2);
+    for (uint32_t place = 1; place <= trailers; place++) {
+        t.own[place] = same ? 1 : (uint8_t)below(7);
+    }
+    hand_out(&t, sender);
     for (uint32_t place = 0; place < 6; place++) {
         CHECK(times_at(&t, place) <= (place <= trailers && place != sender));
     }
@@ -431,6 +442,10 @@ static void test_train(void)
     check_arrivals(sent(2, 1, 0x18CEC9C9, 8), "02", "--");
     check_arrivals(sent(5, 5, 0x18CEEBA9, 8), "43210", "----+");
     check_arrivals(sent(0, 0, 0x18CEC9EB, 8), "", "");
+    /* two at position 1, before they have taken their addresses: the first stops what the second sends */
+    train alike = {.trailers = 2, .number = 0x18CEEBC9, .length = 8, .own = {0, 1, 1}};
+    hand_out(&alike, 2);
+    check_arrivals(alike, "1", "-");
     /* what 2 or 3 refuses comes to the sender's neighbours alone, and nobody keeps it */
     check_arrivals(sent(5, 2, 0x38CDFFC1, 8), "13", "--");
     check_arrivals(sent(5, 2, 0x18CDFFC1, 9), "13", "--");

@@ -15,7 +15,7 @@ use Rattle.readings.specs.declared.routing.Routed.the-variants.{Passed, Neither
 use Rattle.readings.specs.declared.routing.RoutedTold.{RoutedTold}
 use Rattle.readings.specs.Positions.{placeOf, addressOf}
 use Rattle.readings.specs.Routes.{Keeps}
-use Rattle.readings.proofs.LawsPositions.{address-back, places-differ, successor-found, after-next}
+use Rattle.readings.proofs.LawsPositions.{places-differ}
 use Rattle.readings.proofs.LawsAnswers.{told-passed, told-neither, told-refused}
 use Rattle.delivery.specs.Hands.{keptBy, onwardBy, delivered}
 use Rattle.delivery.specs.Delivery.{comesTo, Delivers, Sent, HandToHand, OneDelivery, NamesOne, NoCircle, NeverTwice, NeverBack, SetSameArrivals, RefusedStopped, RightAddresses, ToldAlike}
@@ -24,13 +24,14 @@ use Rattle.delivery.proofs.LawsHands.{before, from, delivered-is}
 use Rattle.delivery.proofs.LawsCircle.{ends}
 use Rattle.delivery.proofs.LawsComes.{comes-append, not-before, before-once, not-from, from-once}
 use Rattle.delivery.proofs.LawsDelivers.{not-kept, same-everywhere, names-no-other}
+use Rattle.delivery.proofs.LawsTaken.{all-right}
 use Rattle.delivery.proofs.LawsTwice.{at-most-once, not-to-the-sender}
 use Rattle.delivery.proofs.LawsUnkept.{sent-unkept, handed-set, refused-read, handed-refused}
 
 -- ---- a frame that the vehicle q sends: what comes to a place comes from ahead of q or from behind it
-module _ (n number count : ℕ) (q : Position) (s : Sent n number count q) (hands : ℕ) (enough : n ≤ hands) where
+module _ (own : ℕ → ℕ) (n number count : ℕ) (q : Position) (s : Sent own n number count q) (hands : ℕ) (enough : n ≤ hands) where
   abbrev to : ℕ → List Bool
-  to place = comesTo place (delivered n number count hands q)
+  to place = comesTo place (delivered own n number count hands q)
 
   abbrev ahead : ℕ → List Bool
   ahead place = comesTo place (before number (placeOf q))
@@ -39,7 +40,7 @@ module _ (n number count : ℕ) (q : Position) (s : Sent n number count q) (hand
   behind place = comesTo place (from number (suc (placeOf q)) (n - placeOf q))
 
   halves : (place : ℕ) {a b : List Bool} → ahead place ≡ a → behind place ≡ b → to place ≡ a ++ b
-  halves place e f = ap (comesTo place) (delivered-is n number count q s hands enough) ∙ comes-append place (before number (placeOf q)) _ ∙ ap₂ _++_ e f
+  halves place e f = ap (comesTo place) (delivered-is own n number count q s hands enough) ∙ comes-append place (before number (placeOf q)) _ ∙ ap₂ _++_ e f
 
   not-ahead : (place : ℕ) → placeOf q ≤ place → ahead place ≡ []
   not-ahead place l = not-before number (placeOf q) place l
@@ -57,7 +58,7 @@ module _ (n number count : ℕ) (q : Position) (s : Sent n number count q) (hand
           let apart : placeOf p ≢ placeOf q = λ e. other (places-differ p q e) in
           halves (placeOf p) (not-ahead (placeOf p) (omega arith)) (from-once number (n - placeOf q) (suc (placeOf q)) (placeOf p) (omega (arith, apart)) (omega arith))
 
-  delivers : Delivers n number q (delivered n number count hands q)
+  delivers : Delivers n number q (delivered own n number count hands q)
   delivers =
       record {
         every-other-once = λ p most other. ap length (to-other p most other);
@@ -66,7 +67,7 @@ module _ (n number count : ℕ) (q : Position) (s : Sent n number count q) (hand
             λ p most other.
             let is = to-other p most other in
             (λ (e : to (placeOf p) ≡ true ∷ []). keeps-exactly number p .0 (head-eq-of-cons-eq (sym is ∙ e)), λ k. is ∙ ap (λ (k : Bool). k ∷ []) (keeps-exactly number p .1 k));
-        never-returns = not-to-the-sender n number count (placeOf q) hands q refl;
+        never-returns = not-to-the-sender own n number count (placeOf q) hands q refl;
       }
 
 pub hand-to-hand : HandToHand
@@ -79,24 +80,24 @@ pub names-one : NamesOne
 names-one n number q arrivals d r h own p most other apart = not-kept n number q p most other arrivals d (λ (k : Keeps p number). names-no-other p r number h own apart (k .names))
 
 pub no-circle : NoCircle
-no-circle n number count q within hands enough = ends n number count hands n q within enough (omega arith)
+no-circle own n number count q within hands enough = ends own n number count hands n q within enough (omega arith)
 
 pub never-twice : NeverTwice
-never-twice n number count hands q place = at-most-once n number count place hands q
+never-twice own n number count hands q place = at-most-once own n number count place hands q
 
 pub never-back : NeverBack
-never-back n number count hands q = not-to-the-sender n number count (placeOf q) hands q refl
+never-back own n number count hands q = not-to-the-sender own n number count (placeOf q) hands q refl
 
 pub set-same-arrivals : SetSameArrivals
-set-same-arrivals n number count q hands set = sent-unkept n number (number - 2 ^ 25) count hands hands q (handed-set n number count set hands)
+set-same-arrivals own n number count q hands set = sent-unkept own n number (number - 2 ^ 25) count hands hands q (handed-set own n number count set hands)
 
 pub refused-stopped : RefusedStopped
-refused-stopped n number count q hands h =
+refused-stopped own n number count q hands h =
     let r = refused-read number count h in
-    sent-unkept n number number count (suc hands) 1 q (handed-refused n number count (r .0) (r .1) hands)
+    sent-unkept own n number number count (suc hands) 1 q (handed-refused own n number count (r .0) (r .1) hands)
 
 pub right-addresses : RightAddresses
-right-addresses p q e = after-next (addressOf p) p q (address-back p) (successor-found p q (omega arith))
+right-addresses = all-right
 
 alike : {a b : RoutedTold} → a ≡ b → (a .kept ≡ b .kept) × (a .onward ≡ b .onward)
 alike e = (ap (λ (t : RoutedTold). t .kept) e, ap (λ (t : RoutedTold). t .onward) e)
@@ -108,6 +109,6 @@ told-alike Neither = alike told-neither
 told-alike (Refused why) = alike (told-refused why)
 
 -- Every vehicle of a train can send such frames: any six fields within their widths, with its own address for SA.
-pub sendable : (n : ℕ) (q : Position) (i : Identifier) (count : ℕ) → n ≤ 5 → placeOf q ≤ n → count ≤ 8 → Widths i → i .source ≡ addressOf q → Sent n (formula i) count q
-sendable n q i count trailers within data-bytes w source =
-    record { trailers = trailers; within = within; range = formula-range i w; data-bytes = data-bytes; source = ap (λ (j : Identifier). j .source) (formula-fields i w) ∙ source }
+pub sendable : (own : ℕ → ℕ) (n : ℕ) (q : Position) (i : Identifier) (count : ℕ) → n ≤ 5 → ((place : ℕ) → 1 ≤ place → place ≤ n → own place ≡ place) → placeOf q ≤ n → count ≤ 8 → Widths i → i .source ≡ addressOf q → Sent own n (formula i) count q
+sendable own n q i count trailers right within data-bytes w source =
+    record { trailers = trailers; right = right; within = within; range = formula-range i w; data-bytes = data-bytes; source = ap (λ (j : Identifier). j .source) (formula-fields i w) ∙ source }

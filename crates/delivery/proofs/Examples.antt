@@ -19,18 +19,29 @@ kept place = record { at = place; kept = true }
 abbrev pub past : ℕ → Arrival
 past place = record { at = place; kept = false }
 
+-- the own position of each trailer is its place
+abbrev pub right : ℕ → ℕ
+right place = place
+
 -- five trailers, the second sends: to the third, to all, to all with R set; two trailers: the towing vehicle to a group, the first to itself; no trailer
 pub worked :
-    (delivered 5 0x18CEB9C1 8 5 Two ≡ (past 1 ∷ past 0 ∷ kept 3 ∷ past 4 ∷ past 5 ∷ []))
-    × (delivered 5 0x18CDFFC1 8 5 Two ≡ (kept 1 ∷ kept 0 ∷ kept 3 ∷ kept 4 ∷ kept 5 ∷ []))
-    × (delivered 5 0x1ACDFFC1 8 5 Two ≡ (past 1 ∷ past 0 ∷ past 3 ∷ past 4 ∷ past 5 ∷ []))
-    × (delivered 2 0x18FE5DEB 8 2 Zero ≡ (kept 1 ∷ kept 2 ∷ []))
-    × (delivered 2 0x18CEC9C9 8 2 One ≡ (past 0 ∷ past 2 ∷ []))
-    × (delivered 0 0x18CEC9EB 8 0 Zero ≡ [])
+    (delivered right 5 0x18CEB9C1 8 5 Two ≡ (past 1 ∷ past 0 ∷ kept 3 ∷ past 4 ∷ past 5 ∷ []))
+    × (delivered right 5 0x18CDFFC1 8 5 Two ≡ (kept 1 ∷ kept 0 ∷ kept 3 ∷ kept 4 ∷ kept 5 ∷ []))
+    × (delivered right 5 0x1ACDFFC1 8 5 Two ≡ (past 1 ∷ past 0 ∷ past 3 ∷ past 4 ∷ past 5 ∷ []))
+    × (delivered right 2 0x18FE5DEB 8 2 Zero ≡ (kept 1 ∷ kept 2 ∷ []))
+    × (delivered right 2 0x18CEC9C9 8 2 One ≡ (past 0 ∷ past 2 ∷ []))
+    × (delivered right 0 0x18CEC9EB 8 0 Zero ≡ [])
 unfolding pick both either reservedBit fieldsOf framePassing targetOf addresses addressOf positions positionAmong positionOf positionAt trailerAt
     ownPosition comesFrom named onwardOf passage routedFrom routedBy routedRead routedAt routeOf
     keptBy onwardBy sentOn keptByTowing hasSuccessor handed toPredecessor toSuccessor delivered
 worked = (refl, refl, refl, refl, refl, refl)
+
+-- two trailers before they have taken their addresses, both at position 1: what the second sends the first stops, and the towing vehicle never gets it
+pub two-alike : delivered (λ place. 1) 2 0x18CEEBC9 8 2 Two ≡ (past 1 ∷ [])
+unfolding pick both either reservedBit fieldsOf framePassing targetOf addresses addressOf positions positionAmong positionOf positionAt trailerAt
+    ownPosition comesFrom named onwardOf passage routedFrom routedBy routedRead routedAt routeOf
+    keptBy onwardBy sentOn keptByTowing hasSuccessor handed toPredecessor toSuccessor delivered
+two-alike = refl
 
 -- a train of so many trailers, its sender with its address, and the places to which a frame comes, in order
 pub record Train : Type 0 where
@@ -93,7 +104,7 @@ destinations =
     ∷ []
 
 pub made : ℕ → Train → List (List Arrival)
-made R t = map (λ (f : Frames). delivered (t .n) (R * 2 ^ 25 + f .number + t .source) 8 9 (t .sender)) destinations
+made R t = map (λ (f : Frames). delivered right (t .n) (R * 2 ^ 25 + f .number + t .source) 8 9 (t .sender)) destinations
 
 pub expected : Train → List (List Arrival)
 expected t = map (λ (f : Frames). map (λ (place : ℕ). record { at = place; kept = f .keeps place }) (t .comes)) destinations

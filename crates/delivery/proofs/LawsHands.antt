@@ -40,27 +40,27 @@ unfolding sentOn
 on-ahead successor ahead behind = ap (λ (o : Onward). sentOn o ahead behind) (sent-on .1 .1 successor)
 
 -- ---- a frame that the vehicle q sends
-module _ (n number count : ℕ) (q : Position) (s : Sent n number count q) where
-  behind-is : (hands more place : ℕ) → more ≤ hands → place + more ≡ n → placeOf q ≤ place → toSuccessor n number count hands place ≡ from number (suc place) more
+module _ (own : ℕ → ℕ) (n number count : ℕ) (q : Position) (s : Sent own n number count q) where
+  behind-is : (hands more place : ℕ) → more ≤ hands → place + more ≡ n → placeOf q ≤ place → toSuccessor own n number count hands place ≡ from number (suc place) more
   unfolding toSuccessor handed from keptBy onwardBy
   behind-is hands zero place h e l = pick-false _ _ (has-none n place (omega arith))
   behind-is zero (suc more) place h e l = absurd (omega arith)
   behind-is (suc hands) (suc more) place h e l =
-      let t = trailer-at n number count q s (suc place) Predecessor (omega arith) (omega arith) (omega arith) in
+      let t = trailer-at own n number count q s (suc place) Predecessor (omega arith) (omega arith) (omega arith) in
       pick-true _ _ (has-successor n place (omega arith))
       ∙ rw t (ap (λ (a : List Arrival). arrival number (suc place) ∷ a) (on-behind (hasSuccessor n (suc place)) _ _ ∙ behind-is hands more (suc place) (omega arith) (omega arith) (omega arith)))
 
-  ahead-is : (hands place : ℕ) → place ≤ hands → place ≤ placeOf q → toPredecessor n number count hands place ≡ before number place
+  ahead-is : (hands place : ℕ) → place ≤ hands → place ≤ placeOf q → toPredecessor own n number count hands place ≡ before number place
   unfolding toPredecessor handed before keptBy onwardBy
   ahead-is hands zero h l = refl
   ahead-is zero (suc place) h l = absurd (omega arith)
-  ahead-is (suc hands) (suc zero) h l = ap (λ (k : Bool). record { at = 0; kept = k } ∷ []) (towing-at n number count q s)
+  ahead-is (suc hands) (suc zero) h l = ap (λ (k : Bool). record { at = 0; kept = k } ∷ []) (towing-at own n number count q s)
   ahead-is (suc hands) (suc (suc place)) h l =
-      let t = trailer-at n number count q s (suc place) Successor (omega arith) (omega (arith, s .within)) (has-successor n (suc place) (omega (arith, s .within)), l) in
+      let t = trailer-at own n number count q s (suc place) Successor (omega arith) (omega (arith, s .within)) (has-successor n (suc place) (omega (arith, s .within)), l) in
       rw t (ap (λ (a : List Arrival). arrival number (suc place) ∷ a) (on-ahead (hasSuccessor n (suc place)) _ _ ∙ ahead-is hands (suc place) (omega arith) (omega arith)))
 
   -- all arrivals, in their order
-  pub delivered-is : (hands : ℕ) → n ≤ hands → delivered n number count hands q ≡ before number (placeOf q) ++ from number (suc (placeOf q)) (n - placeOf q)
+  pub delivered-is : (hands : ℕ) → n ≤ hands → delivered own n number count hands q ≡ before number (placeOf q) ++ from number (suc (placeOf q)) (n - placeOf q)
   unfolding delivered
   delivered-is hands enough =
       ap₂ _++_ (ahead-is hands (placeOf q) (omega (arith, s .within)) (omega arith)) (behind-is hands (n - placeOf q) (placeOf q) (omega arith) (omega (arith, s .within)) (omega arith))

@@ -20,7 +20,7 @@ use Rattle.readings.specs.declared.routing.Side.the-variants.{Successor}
 use Rattle.readings.specs.declared.routing.Routed.{Routed}
 use Rattle.readings.specs.declared.routing.Routed.the-variants.{Passed}
 use Rattle.readings.specs.Positions.{placeOf, addressOf, positionOf, positionAt}
-use Rattle.readings.specs.Routes.{named, onwardOf, ComesFrom, Keeps}
+use Rattle.readings.specs.Routes.{named, onwardOf, routeOf, ComesFrom, Keeps}
 use Rattle.readings.proofs.LawsPositions.{address-back, place-back, place-only, position-none}
 use Rattle.readings.proofs.LawsRoutes.{from-right, comes-exactly, kept-exactly, route-read}
 use Rattle.readings.proofs.LawsAnswers.{passage-is, own-found}
@@ -70,23 +70,25 @@ unfolding hasSuccessor
 has-none n place l = le-ltb place n l
 
 -- ---- a frame that the vehicle q sends
-module _ (n number count : ℕ) (q : Position) (s : Sent n number count q) where
+module _ (own : ℕ → ℕ) (n number count : ℕ) (q : Position) (s : Sent own n number count q) where
   abbrev passes : ℕ → Side → Routed
   passes place side = Passed (record { kept = keepsAt number place; onward = onwardOf side (hasSuccessor n place) })
 
-  trailer-passes : (p : Position) (side : Side) → 1 ≤ placeOf p → ComesFrom side (placeOf p) (hasSuccessor n (placeOf p)) (placeOf q) → routeAt n number count (placeOf p) side ≡ passes (placeOf p) side
+  trailer-passes : (p : Position) (side : Side) → 1 ≤ placeOf p → ComesFrom side (placeOf p) (hasSuccessor n (placeOf p)) (placeOf q)
+      → routeOf side (placeOf p) (hasSuccessor n (placeOf p)) number count ≡ passes (placeOf p) side
   trailer-passes p side some from =
       let behind = hasSuccessor n (placeOf p) in
-      let own = own-found p behind some (λ (e : behind ≡ true). omega (arith, s .trailers, before-the-last n (placeOf p) e)) in
-      route-read side (placeOf p) behind number count p (fieldsOf number) own (passing-fields number count (s .range) (s .data-bytes))
+      let found = own-found p behind some (λ (e : behind ≡ true). omega (arith, s .trailers, before-the-last n (placeOf p) e)) in
+      route-read side (placeOf p) behind number count p (fieldsOf number) found (passing-fields number count (s .range) (s .data-bytes))
       ∙ from-right side p behind (fieldsOf number) q (ap positionOf (s .source) ∙ address-back q) (comes-exactly side _ _ _ .1 from)
       ∙ ap Passed (passage-is side p behind (fieldsOf number))
       ∙ ap (λ (k : Bool). Passed (record { kept = k; onward = onwardOf side behind })) (sym (keeps-at number p))
 
-  pub trailer-at : (place : ℕ) (side : Side) → 1 ≤ place → place ≤ n → ComesFrom side place (hasSuccessor n place) (placeOf q) → routeAt n number count place side ≡ passes place side
+  pub trailer-at : (place : ℕ) (side : Side) → 1 ≤ place → place ≤ n → ComesFrom side place (hasSuccessor n place) (placeOf q) → routeAt own n number count place side ≡ passes place side
   trailer-at place side some most from =
       let p = at-place place (omega (arith, s .trailers)) in
-      subst (λ (k : ℕ). routeAt n number count k side ≡ passes k side) (p .1) (trailer-passes (p .0) side (rw (p .1) some) (rw (p .1) from))
+      ap (λ (k : ℕ). routeOf side k (hasSuccessor n place) number count) (s .right place some most)
+      ∙ subst (λ (k : ℕ). routeOf side k (hasSuccessor n k) number count ≡ passes k side) (p .1) (trailer-passes (p .0) side (rw (p .1) some) (rw (p .1) from))
 
   pub towing-at : keptByTowing (framePassing number count) ≡ keepsAt number 0
   unfolding keptByTowing

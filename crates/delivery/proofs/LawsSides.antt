@@ -47,12 +47,12 @@ module _ (side : Side) (behind : Bool) where
       go (At p) (read.Fields i) own e = rw (route-read side place behind number count p i own e) (by-source p i (positionOf (i .source)) refl)
 
 -- ---- what comes of a frame behind its arrival at a trailer
-module _ (n number count : ℕ) where
+module _ (own : ℕ → ℕ) (n number count : ℕ) where
   abbrev pub rest : ℕ → ℕ → Side → List Arrival
-  rest hands p side = sentOn (onwardBy (routeAt n number count (suc p) side)) (handed n number count hands p Successor) (handed n number count hands (suc (suc p)) Predecessor)
+  rest hands p side = sentOn (onwardBy (routeAt own n number count (suc p) side)) (handed own n number count hands p Successor) (handed own n number count hands (suc (suc p)) Predecessor)
 
 -- for two numbers of hands: what holds of nothing, and of the hands of the neighbour on the other side, holds of it
-module _ (n number count : ℕ) (R : List Arrival → List Arrival → Type 0) (none : R [] []) where
+module _ (own : ℕ → ℕ) (n number count : ℕ) (R : List Arrival → List Arrival → Type 0) (none : R [] []) where
   ahead : (o : Onward) (behind : Bool) (a b c d : List Arrival) → GoesOn Successor behind o → R a c → R (sentOn o a b) (sentOn o c d)
   unfolding sentOn
   ahead o behind a b c d (inl e) some = rw e none
@@ -64,8 +64,8 @@ module _ (n number count : ℕ) (R : List Arrival → List Arrival → Type 0) (
   behind o true a b c d (inr e) some = rw (e ∙ sent-on .0) (some refl)
   behind o false a b c d (inr e) some = rw (e ∙ sent-on .1 .0) none
 
-  pub from-behind : (a b p : ℕ) → R (handed n number count a p Successor) (handed n number count b p Successor) → R (rest n number count a p Successor) (rest n number count b p Successor)
-  from-behind a b p = ahead _ (hasSuccessor n (suc p)) _ _ _ _ (goes-on Successor (hasSuccessor n (suc p)) (suc p) number count)
+  pub from-behind : (a b p : ℕ) → R (handed own n number count a p Successor) (handed own n number count b p Successor) → R (rest own n number count a p Successor) (rest own n number count b p Successor)
+  from-behind a b p = ahead _ (hasSuccessor n (suc p)) _ _ _ _ (goes-on Successor (hasSuccessor n (suc p)) (own (suc p)) number count)
 
-  pub from-ahead : (a b p : ℕ) → (hasSuccessor n (suc p) ≡ true → R (handed n number count a (suc (suc p)) Predecessor) (handed n number count b (suc (suc p)) Predecessor)) → R (rest n number count a p Predecessor) (rest n number count b p Predecessor)
-  from-ahead a b p = behind _ (hasSuccessor n (suc p)) _ _ _ _ (goes-on Predecessor (hasSuccessor n (suc p)) (suc p) number count)
+  pub from-ahead : (a b p : ℕ) → (hasSuccessor n (suc p) ≡ true → R (handed own n number count a (suc (suc p)) Predecessor) (handed own n number count b (suc (suc p)) Predecessor)) → R (rest own n number count a p Predecessor) (rest own n number count b p Predecessor)
+  from-ahead a b p = behind _ (hasSuccessor n (suc p)) _ _ _ _ (goes-on Predecessor (hasSuccessor n (suc p)) (own (suc p)) number count)

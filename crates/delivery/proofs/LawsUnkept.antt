@@ -35,10 +35,10 @@ use Rattle.delivery.specs.Delivery.{unkept}
 use Rattle.delivery.proofs.LawsNeighbours.{by-neighbours}
 
 -- ---- what each vehicle makes of the frame, all make of it
-pub sent-unkept : (n number other count hands more : ℕ) (q : Position) → ((place : ℕ) (side : Side) → handed n number count hands place side ≡ unkept (handed n other count more place side))
-    → delivered n number count hands q ≡ unkept (delivered n other count more q)
-sent-unkept n number other count hands more q each =
-    by-neighbours n number other count hands more unkept refl (map-append _) q (λ p e. each p Successor) (λ e. each (suc (placeOf q)) Predecessor)
+pub sent-unkept : (own : ℕ → ℕ) (n number other count hands more : ℕ) (q : Position) → ((place : ℕ) (side : Side) → handed own n number count hands place side ≡ unkept (handed own n other count more place side))
+    → delivered own n number count hands q ≡ unkept (delivered own n other count more q)
+sent-unkept own n number other count hands more q each =
+    by-neighbours own n number other count hands more unkept refl (map-append _) q (λ p e. each p Successor) (λ e. each (suc (placeOf q)) Predecessor)
 
 -- ---- R set: the same frame with R 0 is, as a number, 2 ^ 25 less
 set-kept : (r : Routed) → keptBy (reserved.unkept r) ≡ false
@@ -64,16 +64,16 @@ unkept-on o Nowhere a b c d e f g = rw e
 unkept-on o ToPredecessor a b c d e f g = rw e f
 unkept-on o ToSuccessor a b c d e f g = rw e g
 
-pub handed-set : (n number count : ℕ) → reservedBit number ≡ 1 → (hands place : ℕ) (side : Side) → handed n number count hands place side ≡ unkept (handed n (number - 2 ^ 25) count hands place side)
+pub handed-set : (own : ℕ → ℕ) (n number count : ℕ) → reservedBit number ≡ 1 → (hands place : ℕ) (side : Side) → handed own n number count hands place side ≡ unkept (handed own n (number - 2 ^ 25) count hands place side)
 unfolding handed
-handed-set n number count set zero place side = refl
-handed-set n number count set (suc hands) zero side =
+handed-set own n number count set zero place side = refl
+handed-set own n number count set (suc hands) zero side =
     ap (λ (k : Bool). record { at = 0; kept = k } ∷ []) (ap keptByTowing (set-passing number set count) ∙ set-towing (framePassing (number - 2 ^ 25) count))
-handed-set n number count set (suc hands) (suc p) side =
-    let r = routeAt n (number - 2 ^ 25) count (suc p) side in
-    let e = reserved.reserved-sent-on side (suc p) (hasSuccessor n (suc p)) number count set in
+handed-set own n number count set (suc hands) (suc p) side =
+    let r = routeAt own n (number - 2 ^ 25) count (suc p) side in
+    let e = reserved.reserved-sent-on side (own (suc p)) (hasSuccessor n (suc p)) number count set in
     ap₂ (λ (k : Bool) (l : List Arrival). record { at = suc p; kept = k } ∷ l) (ap keptBy e ∙ set-kept r)
-    (unkept-on _ _ _ _ _ _ (ap onwardBy e ∙ set-onward r) (handed-set n number count set hands p Successor) (handed-set n number count set hands (suc (suc p)) Predecessor))
+    (unkept-on _ _ _ _ _ _ (ap onwardBy e ∙ set-onward r) (handed-set own n number count set hands p Successor) (handed-set own n number count set hands (suc (suc p)) Predecessor))
 
 -- ---- refused by 2 or 3: at every place, by one of these or by 1
 pub refused-read : (number count : ℕ) → (2 ^ 29 ≤ number) ⊎ (8 < count) → (why : Refusal) × (framePassing number count ≡ read.Refused why)
@@ -93,10 +93,10 @@ refused-at side place behind number count why e = go (ownPosition place behind) 
     go NoVehicle own = (refusal 1, route-1 side place behind number count own)
 
 -- one hand, and no more
-pub handed-refused : (n number count : ℕ) (why : Refusal) → framePassing number count ≡ read.Refused why → (hands place : ℕ) (side : Side)
-    → handed n number count (suc hands) place side ≡ unkept (handed n number count 1 place side)
+pub handed-refused : (own : ℕ → ℕ) (n number count : ℕ) (why : Refusal) → framePassing number count ≡ read.Refused why → (hands place : ℕ) (side : Side)
+    → handed own n number count (suc hands) place side ≡ unkept (handed own n number count 1 place side)
 unfolding handed keptBy onwardBy sentOn keptByTowing
-handed-refused n number count why e hands zero side = ap (λ (answer : IdentifierRead). record { at = 0; kept = keptByTowing answer } ∷ []) e
-handed-refused n number count why e hands (suc p) side =
-    let r = refused-at side (suc p) (hasSuccessor n (suc p)) number count why e in
+handed-refused own n number count why e hands zero side = ap (λ (answer : IdentifierRead). record { at = 0; kept = keptByTowing answer } ∷ []) e
+handed-refused own n number count why e hands (suc p) side =
+    let r = refused-at side (own (suc p)) (hasSuccessor n (suc p)) number count why e in
     rw (r .1)

@@ -1,4 +1,5 @@
 -- Laws of hands and arrivals, worked numbers, and the theorems of delivery.
+pub mod LawsTaken
 pub mod LawsRoutesAt
 pub mod LawsHands
 pub mod LawsNeighbours

@@ -15,6 +15,16 @@ use Rattle.readings.specs.Positions.{placeOf, addressOf, takenAfter}
 use Rattle.readings.specs.Routes.{Keeps, routedTold, onwardNumber}
 use Rattle.delivery.specs.Hands.{Arrival, keptBy, onwardBy, delivered}
 
+-- "With up to five trailers at their right addresses, no two alike": the own position of each is its place, counted from the towing vehicle;
+-- "each frame .. and a sender in the train": one that no router refuses by 2 or 3, with the address of the vehicle q for its SA
+pub record Sent (own : ℕ → ℕ) (n number count : ℕ) (q : Position) : Type 0 where
+  pub trailers : n ≤ 5
+  pub right : (place : ℕ) → 1 ≤ place → place ≤ n → own place ≡ place
+  pub within : placeOf q ≤ n
+  pub range : number < 2 ^ 29
+  pub data-bytes : count ≤ 8
+  pub source : fieldsOf number .source ≡ addressOf q
+
 -- each time that the frame comes to the vehicle at a place, whether it is kept there
 unfoldable pub comesTo : ℕ → List Arrival → List Bool
 comesTo place [] = []
@@ -31,17 +41,9 @@ pub record Delivers (n number : ℕ) (q : Position) (arrivals : List Arrival) : 
   -- "A frame never returns to its sender."
   pub never-returns : comesTo (placeOf q) arrivals ≡ []
 
--- "up to five trailers", "each frame .. and a sender in the train": one that no router refuses by 2 or 3, with the address of the vehicle q for its SA
-pub record Sent (n number count : ℕ) (q : Position) : Type 0 where
-  pub trailers : n ≤ 5
-  pub within : placeOf q ≤ n
-  pub range : number < 2 ^ 29
-  pub data-bytes : count ≤ 8
-  pub source : fieldsOf number .source ≡ addressOf q
-
 -- "passed hand to hand by the route rule": each such frame is delivered so, for any number of hands in a row that is not below that of the trailers.
 abbrev pub HandToHand : Type 0
-HandToHand = (n number count : ℕ) (q : Position) → Sent n number count q → (hands : ℕ) → n ≤ hands → Delivers n number q (delivered n number count hands q)
+HandToHand = (own : ℕ → ℕ) (n number count : ℕ) (q : Position) → Sent own n number count q → (hands : ℕ) → n ≤ hands → Delivers n number q (delivered own n number count hands q)
 
 -- Two lists that `Delivers` allows say the same of each place: nothing is left open but the order.
 abbrev pub OneDelivery : Type 0
@@ -52,21 +54,29 @@ abbrev pub NamesOne : Type 0
 NamesOne = (n number : ℕ) (q : Position) (arrivals : List Arrival) → Delivers n number q arrivals → (r : Position) → number / 2 ^ 16 % 2 ^ 8 < 240 → number / 2 ^ 8 % 2 ^ 8 ≡ addressOf r
     → (p : Position) → placeOf p ≤ n → p ≢ q → p ≢ r → comesTo (placeOf p) arrivals ≡ false ∷ []
 
--- "at their right addresses": the own position of each trailer, its place, is the one that it takes when it hears the vehicle before it.
-abbrev pub RightAddresses : Type 0
-RightAddresses = (p q : Position) → placeOf q ≡ suc (placeOf p) → takenAfter (addressOf p) ≡ Own q
+-- The trailer behind a place has taken its address: it is at the position after that of the vehicle before it.
+pub record Taken (own : ℕ → ℕ) (place : ℕ) : Type 0 where
+  pub before : Position
+  pub itself : Position
+  pub own-before : placeOf before ≡ own place
+  pub own-itself : placeOf itself ≡ own (suc place)
+  pub taken : takenAfter (addressOf before) ≡ Own itself
 
--- ---- of any frame, whatever stands in it
+-- Where each trailer has done so, from the towing vehicle on, all are at their right addresses.
+abbrev pub RightAddresses : Type 0
+RightAddresses = (own : ℕ → ℕ) (n : ℕ) → own 0 ≡ 0 → ((place : ℕ) → place < n → Taken own place) → (place : ℕ) → place ≤ n → own place ≡ place
+
+-- ---- of any frame, whatever stands in it, and any train, whatever positions its trailers have: also before they have taken their addresses, with several alike
 -- More hands make no more arrivals: the bound hides no circle.
 abbrev pub NoCircle : Type 0
-NoCircle = (n number count : ℕ) (q : Position) → placeOf q ≤ n → (hands : ℕ) → n ≤ hands → delivered n number count hands q ≡ delivered n number count n q
+NoCircle = (own : ℕ → ℕ) (n number count : ℕ) (q : Position) → placeOf q ≤ n → (hands : ℕ) → n ≤ hands → delivered own n number count hands q ≡ delivered own n number count n q
 
--- It comes to no vehicle twice, and never back to its sender: also where its SA is another's, or nobody's.
+-- It comes to no vehicle twice, and never back to its sender.
 abbrev pub NeverTwice : Type 0
-NeverTwice = (n number count hands : ℕ) (q : Position) (place : ℕ) → length (comesTo place (delivered n number count hands q)) ≤ 1
+NeverTwice = (own : ℕ → ℕ) (n number count hands : ℕ) (q : Position) (place : ℕ) → length (comesTo place (delivered own n number count hands q)) ≤ 1
 
 abbrev pub NeverBack : Type 0
-NeverBack = (n number count hands : ℕ) (q : Position) → comesTo (placeOf q) (delivered n number count hands q) ≡ []
+NeverBack = (own : ℕ → ℕ) (n number count hands : ℕ) (q : Position) → comesTo (placeOf q) (delivered own n number count hands q) ≡ []
 
 -- the same arrivals, but nobody keeps it
 abbrev pub unkept : List Arrival → List Arrival
@@ -74,11 +84,11 @@ unkept arrivals = map (λ (a : Arrival). record { at = a .at; kept = false }) ar
 
 -- With R set the arrivals are, in the same order, those of the same frame with R 0, which as a number is 2 ^ 25 less, and nobody keeps it.
 abbrev pub SetSameArrivals : Type 0
-SetSameArrivals = (n number count : ℕ) (q : Position) (hands : ℕ) → reservedBit number ≡ 1 → delivered n number count hands q ≡ unkept (delivered n (number - 2 ^ 25) count hands q)
+SetSameArrivals = (own : ℕ → ℕ) (n number count : ℕ) (q : Position) (hands : ℕ) → reservedBit number ≡ 1 → delivered own n number count hands q ≡ unkept (delivered own n (number - 2 ^ 25) count hands q)
 
 -- What 2 or 3 refuses is handed to the sender's neighbours and no further, and nobody keeps it.
 abbrev pub RefusedStopped : Type 0
-RefusedStopped = (n number count : ℕ) (q : Position) (hands : ℕ) → (2 ^ 29 ≤ number) ⊎ (8 < count) → delivered n number count (suc hands) q ≡ unkept (delivered n number count 1 q)
+RefusedStopped = (own : ℕ → ℕ) (n number count : ℕ) (q : Position) (hands : ℕ) → (2 ^ 29 ≤ number) ⊎ (8 < count) → delivered own n number count (suc hands) q ≡ unkept (delivered own n number count 1 q)
 
 -- Kept, and sent on, is what `castanhiu_route` tells a host in numbers.
 abbrev pub ToldAlike : Type 0

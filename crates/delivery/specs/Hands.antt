@@ -49,11 +49,11 @@ keptByTowing (read.Refused why) = false
 unfoldable pub hasSuccessor : ℕ → ℕ → Bool
 hasSuccessor n place = ltb place n
 
--- one frame in such a train, by its number and how many data bytes it has
-module _ (n number count : ℕ) where
-  -- what `route` answers the trailer at a place, which is its own position
+-- one frame in such a train, by its number and how many data bytes it has; the trailer at a place has the own position `own place`
+module _ (own : ℕ → ℕ) (n number count : ℕ) where
+  -- what `route` answers that trailer
   abbrev pub routeAt : ℕ → Side → Routed
-  routeAt place side = routeOf side place (hasSuccessor n place) number count
+  routeAt place side = routeOf side (own place) (hasSuccessor n place) number count
 
   -- all arrivals of the frame that is handed to the vehicle at a place from that side of it, by that vehicle to the next and so on, at most so many hands in a row;
   -- the tractor "sends nothing back"

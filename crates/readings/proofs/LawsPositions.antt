@@ -143,10 +143,6 @@ pub successor-place : (p q : Position) → successorOf p ≡ At q → placeOf q 
 unfolding successorOf
 successor-place p q e = place-only (placeOf p + 1) q e
 
-pub successor-found : (p q : Position) → placeOf q ≡ placeOf p + 1 → successorOf p ≡ At q
-unfolding successorOf
-successor-found p q e = ap positionAt (sym e) ∙ place-back q
-
 pub predecessor-place : (p q : Position) → predecessorOf q ≡ At p → placeOf p + 1 ≡ placeOf q
 unfolding predecessorOf
 predecessor-place p q e =
