@@ -23,26 +23,6 @@ past place = record { at = place; kept = false }
 abbrev pub right : ℕ → ℕ
 right place = place
 
--- five trailers, the second sends: to the third, to all, to all with R set; two trailers: the towing vehicle to a group, the first to itself; no trailer
-pub worked :
-    (delivered right 5 0x18CEB9C1 8 5 Two ≡ (past 1 ∷ past 0 ∷ kept 3 ∷ past 4 ∷ past 5 ∷ []))
-    × (delivered right 5 0x18CDFFC1 8 5 Two ≡ (kept 1 ∷ kept 0 ∷ kept 3 ∷ kept 4 ∷ kept 5 ∷ []))
-    × (delivered right 5 0x1ACDFFC1 8 5 Two ≡ (past 1 ∷ past 0 ∷ past 3 ∷ past 4 ∷ past 5 ∷ []))
-    × (delivered right 2 0x18FE5DEB 8 2 Zero ≡ (kept 1 ∷ kept 2 ∷ []))
-    × (delivered right 2 0x18CEC9C9 8 2 One ≡ (past 0 ∷ past 2 ∷ []))
-    × (delivered right 0 0x18CEC9EB 8 0 Zero ≡ [])
-unfolding pick both either reservedBit fieldsOf framePassing targetOf addresses addressOf positions positionAmong positionOf positionAt trailerAt
-    ownPosition comesFrom named onwardOf passage routedFrom routedBy routedRead routedAt routeOf
-    keptBy onwardBy sentOn keptByTowing hasSuccessor handed toPredecessor toSuccessor delivered
-worked = (refl, refl, refl, refl, refl, refl)
-
--- two trailers before they have taken their addresses, both at position 1: what the second sends the first stops, and the towing vehicle never gets it
-pub two-alike : delivered (λ place. 1) 2 0x18CEEBC9 8 2 Two ≡ (past 1 ∷ [])
-unfolding pick both either reservedBit fieldsOf framePassing targetOf addresses addressOf positions positionAmong positionOf positionAt trailerAt
-    ownPosition comesFrom named onwardOf passage routedFrom routedBy routedRead routedAt routeOf
-    keptBy onwardBy sentOn keptByTowing hasSuccessor handed toPredecessor toSuccessor delivered
-two-alike = refl
-
 -- a train of so many trailers, its sender with its address, and the places to which a frame comes, in order
 pub record Train : Type 0 where
   pub n : ℕ
@@ -109,9 +89,34 @@ made R t = map (λ (f : Frames). delivered right (t .n) (R * 2 ^ 25 + f .number 
 pub expected : Train → List (List Arrival)
 expected t = map (λ (f : Frames). map (λ (place : ℕ). record { at = place; kept = f .keeps place }) (t .comes)) destinations
 
--- with R 0; and with R set, where nobody keeps them
-pub each-train : (map (made 0) trains ≡ map expected trains) × (map (made 1) trains ≡ map (λ (t : Train). map unkept (expected t)) trains)
+pub record Worked : Type 0 where
+  -- five trailers, the second sends: to the third, to all, and to all with R set
+  pub to-one : delivered right 5 0x18CEB9C1 8 5 Two ≡ (past 1 ∷ past 0 ∷ kept 3 ∷ past 4 ∷ past 5 ∷ [])
+  pub to-all : delivered right 5 0x18CDFFC1 8 5 Two ≡ (kept 1 ∷ kept 0 ∷ kept 3 ∷ kept 4 ∷ kept 5 ∷ [])
+  pub to-all-set : delivered right 5 0x1ACDFFC1 8 5 Two ≡ (past 1 ∷ past 0 ∷ past 3 ∷ past 4 ∷ past 5 ∷ [])
+  -- two trailers: the towing vehicle to a group, the first to itself; and no trailer
+  pub to-a-group : delivered right 2 0x18FE5DEB 8 2 Zero ≡ (kept 1 ∷ kept 2 ∷ [])
+  pub to-itself : delivered right 2 0x18CEC9C9 8 2 One ≡ (past 0 ∷ past 2 ∷ [])
+  pub no-trailer : delivered right 0 0x18CEC9EB 8 0 Zero ≡ []
+  -- two trailers at position 1, before they have taken their addresses: what the second sends the first stops, and the towing vehicle never gets it
+  pub two-alike : delivered (λ place. 1) 2 0x18CEEBC9 8 2 Two ≡ (past 1 ∷ [])
+  -- every train, sender and destination, with R 0; and with R set, where nobody keeps them
+  pub each-train : map (made 0) trains ≡ map expected trains
+  pub each-train-set : map (made 1) trains ≡ map (λ (t : Train). map unkept (expected t)) trains
+
+pub worked : Worked
 unfolding pick both either reservedBit fieldsOf framePassing targetOf addresses addressOf positions positionAmong positionOf positionAt trailerAt
     ownPosition comesFrom named onwardOf passage routedFrom routedBy routedRead routedAt routeOf
     keptBy onwardBy sentOn keptByTowing hasSuccessor handed toPredecessor toSuccessor delivered trains destinations made expected
-each-train = (refl, refl)
+worked =
+    record {
+      to-one = refl;
+      to-all = refl;
+      to-all-set = refl;
+      to-a-group = refl;
+      to-itself = refl;
+      no-trailer = refl;
+      two-alike = refl;
+      each-train = refl;
+      each-train-set = refl;
+    }
