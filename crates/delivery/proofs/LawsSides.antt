@@ -46,12 +46,20 @@ module _ (side : Side) (behind : Bool) where
       go (At p) (read.Refused why) own e = inl (ap onwardBy (route-refused side place behind number count p why own e))
       go (At p) (read.Fields i) own e = rw (route-read side place behind number count p i own e) (by-source p i (positionOf (i .source)) refl)
 
--- ---- what comes of a frame behind its arrival at a trailer
+-- ---- what comes of a frame behind its arrival at a trailer, and the place of the neighbour on the other side, where there is one
+abbrev pub next : Side → ℕ → ℕ
+next Successor p = p
+next Predecessor p = suc (suc p)
+
+abbrev pub HasNext : ℕ → Side → ℕ → Type 0
+HasNext n Successor p = Unit {0}
+HasNext n Predecessor p = hasSuccessor n (suc p) ≡ true
+
 module _ (own : ℕ → ℕ) (n number count : ℕ) where
   abbrev pub rest : ℕ → ℕ → Side → List Arrival
   rest hands p side = sentOn (onwardBy (routeAt own n number count (suc p) side)) (handed own n number count hands p Successor) (handed own n number count hands (suc (suc p)) Predecessor)
 
--- for two numbers of hands: what holds of nothing, and of the hands of the neighbour on the other side, holds of it
+-- for two numbers of hands: what holds of nothing, and of that neighbour's hands, holds of it
 module _ (own : ℕ → ℕ) (n number count : ℕ) (R : List Arrival → List Arrival → Type 0) (none : R [] []) where
   ahead : (o : Onward) (behind : Bool) (a b c d : List Arrival) → GoesOn Successor behind o → R a c → R (sentOn o a b) (sentOn o c d)
   unfolding sentOn
@@ -64,8 +72,7 @@ module _ (own : ℕ → ℕ) (n number count : ℕ) (R : List Arrival → List A
   behind o true a b c d (inr e) some = rw (e ∙ sent-on .0) (some refl)
   behind o false a b c d (inr e) some = rw (e ∙ sent-on .1 .0) none
 
-  pub from-behind : (a b p : ℕ) → R (handed own n number count a p Successor) (handed own n number count b p Successor) → R (rest own n number count a p Successor) (rest own n number count b p Successor)
-  from-behind a b p = ahead _ (hasSuccessor n (suc p)) _ _ _ _ (goes-on Successor (hasSuccessor n (suc p)) (own (suc p)) number count)
-
-  pub from-ahead : (a b p : ℕ) → (hasSuccessor n (suc p) ≡ true → R (handed own n number count a (suc (suc p)) Predecessor) (handed own n number count b (suc (suc p)) Predecessor)) → R (rest own n number count a p Predecessor) (rest own n number count b p Predecessor)
-  from-ahead a b p = behind _ (hasSuccessor n (suc p)) _ _ _ _ (goes-on Predecessor (hasSuccessor n (suc p)) (own (suc p)) number count)
+  pub goes : (side : Side) (a b p : ℕ) → (HasNext n side p → R (handed own n number count a (next side p) side) (handed own n number count b (next side p) side))
+      → R (rest own n number count a p side) (rest own n number count b p side)
+  goes Successor a b p some = ahead _ (hasSuccessor n (suc p)) _ _ _ _ (goes-on Successor (hasSuccessor n (suc p)) (own (suc p)) number count) (some tt)
+  goes Predecessor a b p some = behind _ (hasSuccessor n (suc p)) _ _ _ _ (goes-on Predecessor (hasSuccessor n (suc p)) (own (suc p)) number count) some

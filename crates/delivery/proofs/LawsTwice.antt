@@ -2,6 +2,7 @@
 use mathlib.Core.Path.{_≡_, refl, ap, ap₂, _∙_}
 use mathlib.Core.Bool.{Bool, true, false}
 use mathlib.Core.List.{List, [], _∷_, _++_}
+use mathlib.Core.Logic.{_⊎_, inl, inr}
 use Prim.Native.Nat.{ℕ, zero, suc, _≤_, _<_}
 use native.Mathlib.Decide.{decLt}
 use native.Mathlib.Omega.{arith}
@@ -9,13 +10,14 @@ use lib.Dec.{eqb}
 use lib.ListN.{length, length-append}
 use borrow.Author.Tests.{eqb-true, eqb-false}
 use Rattle.readings.specs.declared.position.Position.{Position}
+use Rattle.readings.specs.declared.routing.Side.{Side}
 use Rattle.readings.specs.declared.routing.Side.the-variants.{Predecessor, Successor}
 use Rattle.readings.specs.Positions.{placeOf}
 use Rattle.delivery.specs.Hands.{Arrival, handed, toPredecessor, toSuccessor, delivered}
 use Rattle.delivery.specs.Delivery.{comesTo}
 use Rattle.delivery.proofs.LawsComes.{comes-here, comes-else, comes-append}
 use Rattle.delivery.proofs.LawsNeighbours.{to-predecessor, to-successor}
-use Rattle.delivery.proofs.LawsSides.{rest, from-behind, from-ahead}
+use Rattle.delivery.proofs.LawsSides.{next, rest, goes}
 
 -- the first comes to the place and no other does, or at most one of the others
 at-most : (place : ℕ) (a : Arrival) (others : List Arrival) → (a .at ≡ place → comesTo place others ≡ []) → length (comesTo place others) ≤ 1 → length (comesTo place (a ∷ others)) ≤ 1
@@ -32,38 +34,39 @@ None place arrivals any = comesTo place arrivals ≡ []
 abbrev Once : ℕ → List Arrival → List Arrival → Type 0
 Once place arrivals any = length (comesTo place arrivals) ≤ 1
 
--- ---- for one place: handed from behind it does not come behind, and ahead at most once; handed from ahead the other way round
+-- ---- the place lies on the side from which the frame came to a vehicle
+abbrev Away : Side → ℕ → ℕ → Type 0
+Away Successor at place = at < place
+Away Predecessor at place = place < at
+
+away-apart : (side : Side) (at place : ℕ) → Away side at place → at ≡ place → ⊥
+away-apart Successor at place l e = omega arith
+away-apart Predecessor at place l e = omega arith
+
+away-next : (side : Side) (p place : ℕ) → (suc p ≡ place) ⊎ Away side (suc p) place → Away side (next side p) place
+away-next Successor p place (inl e) = omega arith
+away-next Successor p place (inr l) = omega arith
+away-next Predecessor p place (inl e) = omega arith
+away-next Predecessor p place (inr l) = omega arith
+
 module _ (own : ℕ → ℕ) (n number count place : ℕ) where
-  not-behind : (hands at : ℕ) → at < place → comesTo place (handed own n number count hands at Successor) ≡ []
+  -- there it does not come, and elsewhere at most once
+  never-away : (hands at : ℕ) (side : Side) → Away side at place → comesTo place (handed own n number count hands at side) ≡ []
   unfolding handed comesTo
-  not-behind zero at l = refl
-  not-behind (suc hands) zero l = comes-else place _ [] (λ (e : 0 ≡ place). omega arith)
-  not-behind (suc hands) (suc p) l =
-      comes-else place _ (rest own n number count hands p Successor) (λ (e : suc p ≡ place). omega arith) ∙ from-behind own n number count (None place) refl hands hands p (not-behind hands p (omega arith))
+  never-away zero at side l = refl
+  never-away (suc hands) zero side l = comes-else place _ [] (away-apart side 0 place l)
+  never-away (suc hands) (suc p) side l =
+      comes-else place _ (rest own n number count hands p side) (away-apart side (suc p) place l)
+      ∙ goes own n number count (None place) refl side hands hands p (λ h. never-away hands (next side p) side (away-next side p place (inr l)))
 
-  once-ahead : (hands at : ℕ) → length (comesTo place (handed own n number count hands at Successor)) ≤ 1
+  once : (hands at : ℕ) (side : Side) → length (comesTo place (handed own n number count hands at side)) ≤ 1
   unfolding handed comesTo
-  once-ahead zero at = omega arith
-  once-ahead (suc hands) zero = at-most place _ [] (λ e. refl) (omega arith)
-  once-ahead (suc hands) (suc p) =
-      at-most place _ (rest own n number count hands p Successor) (λ (e : suc p ≡ place). from-behind own n number count (None place) refl hands hands p (not-behind hands p (omega arith)))
-      (from-behind own n number count (Once place) (omega arith) hands hands p (once-ahead hands p))
-
-  not-ahead : (hands at : ℕ) → place < at → comesTo place (handed own n number count hands at Predecessor) ≡ []
-  unfolding handed comesTo
-  not-ahead zero at l = refl
-  not-ahead (suc hands) zero l = absurd (omega arith)
-  not-ahead (suc hands) (suc p) l =
-      comes-else place _ (rest own n number count hands p Predecessor) (λ (e : suc p ≡ place). omega arith)
-      ∙ from-ahead own n number count (None place) refl hands hands p (λ h. not-ahead hands (suc (suc p)) (omega arith))
-
-  once-behind : (hands at : ℕ) → length (comesTo place (handed own n number count hands at Predecessor)) ≤ 1
-  unfolding handed comesTo
-  once-behind zero at = omega arith
-  once-behind (suc hands) zero = at-most place _ [] (λ e. refl) (omega arith)
-  once-behind (suc hands) (suc p) =
-      at-most place _ (rest own n number count hands p Predecessor) (λ (e : suc p ≡ place). from-ahead own n number count (None place) refl hands hands p (λ h. not-ahead hands (suc (suc p)) (omega arith)))
-      (from-ahead own n number count (Once place) (omega arith) hands hands p (λ h. once-behind hands (suc (suc p))))
+  once zero at side = omega arith
+  once (suc hands) zero side = at-most place _ [] (λ e. refl) (omega arith)
+  once (suc hands) (suc p) side =
+      at-most place _ (rest own n number count hands p side)
+      (λ (e : suc p ≡ place). goes own n number count (None place) refl side hands hands p (λ h. never-away hands (next side p) side (away-next side p place (inl e))))
+      (goes own n number count (Once place) (omega arith) side hands hands p (λ h. once hands (next side p) side))
 
 -- ---- as the vehicle q sends it
 module _ (own : ℕ → ℕ) (n number count place hands : ℕ) where
@@ -75,19 +78,19 @@ module _ (own : ℕ → ℕ) (n number count place hands : ℕ) where
 
   none-ahead : (q : Position) → placeOf q ≤ place → ahead q ≡ []
   unfolding comesTo
-  none-ahead q l = to-predecessor own n number number count hands hands (None place) refl (placeOf q) (λ p (e : placeOf q ≡ suc p). not-behind own n number count place hands p (omega arith))
+  none-ahead q l = to-predecessor own n number number count hands hands (None place) refl (placeOf q) (λ p (e : placeOf q ≡ suc p). never-away own n number count place hands p Successor (omega arith))
 
   some-ahead : (q : Position) → length (ahead q) ≤ 1
   unfolding comesTo
-  some-ahead q = to-predecessor own n number number count hands hands (Once place) (omega arith) (placeOf q) (λ p e. once-ahead own n number count place hands p)
+  some-ahead q = to-predecessor own n number number count hands hands (Once place) (omega arith) (placeOf q) (λ p e. once own n number count place hands p Successor)
 
   none-behind : (q : Position) → place ≤ placeOf q → behind q ≡ []
   unfolding comesTo
-  none-behind q l = to-successor own n number number count hands hands (None place) refl (placeOf q) (λ h. not-ahead own n number count place hands (suc (placeOf q)) (omega arith))
+  none-behind q l = to-successor own n number number count hands hands (None place) refl (placeOf q) (λ h. never-away own n number count place hands (suc (placeOf q)) Predecessor (omega arith))
 
   some-behind : (q : Position) → length (behind q) ≤ 1
   unfolding comesTo
-  some-behind q = to-successor own n number number count hands hands (Once place) (omega arith) (placeOf q) (λ h. once-behind own n number count place hands (suc (placeOf q)))
+  some-behind q = to-successor own n number number count hands hands (Once place) (omega arith) (placeOf q) (λ h. once own n number count place hands (suc (placeOf q)) Predecessor)
 
   both-sides : (q : Position) → comesTo place (delivered own n number count hands q) ≡ ahead q ++ behind q
   unfolding delivered
