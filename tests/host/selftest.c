@@ -425,12 +425,12 @@ static void test_train(void)
         for (uint32_t sender = 0; sender <= trailers; sender++) {
             for (size_t f = 0; f < sizeof formats; f++) {
                 for (uint32_t specific = 0; specific < 256; specific++) {
-                    const uint32_t number = below(8) << 26 | below(2) << 24 | (uint32_t)formats[f] << 16 |
-                                            specific << 8 | vehicle[sender];
-                    check_delivery(trailers, sender, number, below(9));
-                    check_delivery(trailers, sender, number | 0x02000000u, below(9));
-                    check_once(trailers, sender, (number & ~0xFFu) | specific, below(11));
-                    check_once(trailers, sender, any(), below(11));
+                    const uint32_t rest = any(), other = any();
+                    const uint32_t number = (rest & 0x1D000000u) | (uint32_t)formats[f] << 16 | specific << 8;
+                    check_delivery(trailers, sender, number | vehicle[sender], rest % 9);
+                    check_delivery(trailers, sender, number | 0x02000000u | vehicle[sender], rest % 9);
+                    check_once(trailers, sender, number | specific, rest % 11);
+                    check_once(trailers, sender, other, rest % 11);
                 }
             }
         }
