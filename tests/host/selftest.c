@@ -311,7 +311,7 @@ static void test_route(void)
 
 /* ---- a whole train ------------------------------------------------------------------------- */
 
-/* A frame passed hand to hand through the towing vehicle and its trailers, and where it came, in order. */
+/* Document 02, 2026-14: a frame passed hand to hand through the towing vehicle and its trailers, and where it came, in order. */
 typedef struct {
     uint32_t trailers, number;
     size_t length;

@@ -2,8 +2,8 @@
 use mathlib.Core.Path.{_≡_, refl, sym, ap, ap₂, _∙_}
 use mathlib.Core.Bool.{Bool, true}
 use mathlib.Core.List.{List, [], _∷_, _++_, head-eq-of-cons-eq}
-use mathlib.Core.Logic.{_≢_, _⊎_, inl, inr}
-use Prim.Native.Nat.{ℕ, suc, _-_, _^_, _≤_, _<_}
+use mathlib.Core.Logic.{_≢_}
+use Prim.Native.Nat.{ℕ, suc, _+_, _-_, _^_, _≤_, _<_}
 use native.Mathlib.Decide.{decLt}
 use native.Mathlib.Omega.{arith}
 use lib.ListN.{length}
@@ -45,15 +45,14 @@ module _ (own : ℕ → ℕ) (n number count : ℕ) (q : Position) (s : Sent own
   not-ahead : (place : ℕ) → placeOf q ≤ place → ahead place ≡ []
   not-ahead place l = not-before number (placeOf q) place l
 
-  not-behind : (place : ℕ) → (place ≤ placeOf q) ⊎ (n < place) → behind place ≡ []
-  not-behind place (inl l) = not-from number (n - placeOf q) (suc (placeOf q)) place (inl (omega arith))
-  not-behind place (inr l) = not-from number (n - placeOf q) (suc (placeOf q)) place (inr (omega (arith, s .within)))
+  not-behind : (place : ℕ) → (placeOf q < place → place ≤ n → ⊥) → behind place ≡ []
+  not-behind place h = not-from number (n - placeOf q) (suc (placeOf q)) place (λ (l : suc (placeOf q) ≤ place) (m : place < suc (placeOf q) + (n - placeOf q)). h (omega arith) (omega (arith, s .within)))
 
   to-other : (p : Position) → placeOf p ≤ n → p ≢ q → to (placeOf p) ≡ keeps number p ∷ []
   to-other p most other = go (decLt (placeOf p) (placeOf q)) ∙ ap (λ (k : Bool). k ∷ []) (keeps-at number p)
     where
       go : Dec (placeOf p < placeOf q) → to (placeOf p) ≡ keepsAt number (placeOf p) ∷ []
-      go (yes l) = halves (placeOf p) (before-once number (placeOf q) (placeOf p) l) (not-behind (placeOf p) (inl (omega arith)))
+      go (yes l) = halves (placeOf p) (before-once number (placeOf q) (placeOf p) l) (not-behind (placeOf p) (λ (k : placeOf q < placeOf p) j. omega arith))
       go (no l) =
           let apart : placeOf p ≢ placeOf q = λ e. other (places-differ p q e) in
           halves (placeOf p) (not-ahead (placeOf p) (omega arith)) (from-once number (n - placeOf q) (suc (placeOf q)) (placeOf p) (omega (arith, apart)) (omega arith))
@@ -62,7 +61,7 @@ module _ (own : ℕ → ℕ) (n number count : ℕ) (q : Position) (s : Sent own
   delivers =
       record {
         every-other-once = λ p most other. ap length (to-other p most other);
-        nobody-else = λ place l. halves place (not-ahead place (omega (arith, s .within))) (not-behind place (inr l));
+        nobody-else = λ place l. halves place (not-ahead place (omega (arith, s .within))) (not-behind place (λ k (j : place ≤ n). omega arith));
         kept-exactly =
             λ p most other.
             let is = to-other p most other in

@@ -2,7 +2,6 @@
 use mathlib.Core.Path.{_≡_, refl, ap, ap₂, _∙_}
 use mathlib.Core.Bool.{Bool, true, false}
 use mathlib.Core.List.{List, [], _∷_, _++_}
-use mathlib.Core.Logic.{_⊎_, inl, inr}
 use Prim.Native.Nat.{ℕ, zero, suc, _+_, _≤_, _<_}
 use native.Mathlib.Omega.{arith}
 use borrow.Author.Tests.{eq-eqb, ne-eqb, eqb-true, eqb-false}
@@ -15,13 +14,22 @@ use Rattle.delivery.proofs.LawsRoutesAt.{keepsAt}
 use Rattle.delivery.proofs.LawsHands.{arrival, before, from}
 
 -- ---- the first comes to that place, or to another; and two lists in a row
-pub comes-here : (place : ℕ) (a : Arrival) (arrivals : List Arrival) → a .at ≡ place → comesTo place (a ∷ arrivals) ≡ a .kept ∷ comesTo place arrivals
+comes-here : (place : ℕ) (a : Arrival) (arrivals : List Arrival) → a .at ≡ place → comesTo place (a ∷ arrivals) ≡ a .kept ∷ comesTo place arrivals
 unfolding comesTo
 comes-here place a arrivals e = pick-true _ _ (eq-eqb (a .at) place e)
 
 pub comes-else : (place : ℕ) (a : Arrival) (arrivals : List Arrival) → (a .at ≡ place → ⊥) → comesTo place (a ∷ arrivals) ≡ comesTo place arrivals
 unfolding comesTo
 comes-else place a arrivals e = pick-false _ _ (ne-eqb (a .at) place e)
+
+-- what holds in both cases holds
+pub comes-cases : (P : List Bool → Type 0) (place : ℕ) (a : Arrival) (arrivals : List Arrival) → (a .at ≡ place → P (a .kept ∷ comesTo place arrivals)) → ((a .at ≡ place → ⊥) → P (comesTo place arrivals))
+    → P (comesTo place (a ∷ arrivals))
+comes-cases P place a arrivals f g = go (eqb (a .at) place) refl
+  where
+    go : (t : Bool) → eqb (a .at) place ≡ t → P (comesTo place (a ∷ arrivals))
+    go true t = let e = eqb-true (a .at) place t in rw (comes-here place a arrivals e) (f e)
+    go false t = let e = eqb-false (a .at) place t in rw (comes-else place a arrivals e) (g e)
 
 pub comes-append : (place : ℕ) (a b : List Arrival) → comesTo place (a ++ b) ≡ comesTo place a ++ comesTo place b
 unfolding comesTo pick
@@ -38,11 +46,7 @@ module _ (number : ℕ) where
   -- to the first and then no more, or to one of the rest
   comes-once : (place first : ℕ) (rest : List Arrival) → (first ≡ place → comesTo place rest ≡ []) → ((first ≡ place → ⊥) → comesTo place rest ≡ keepsAt number place ∷ [])
       → comesTo place (arrival number first ∷ rest) ≡ keepsAt number place ∷ []
-  comes-once place first rest f g = go (eqb first place) refl
-    where
-      go : (t : Bool) → eqb first place ≡ t → comesTo place (arrival number first ∷ rest) ≡ keepsAt number place ∷ []
-      go true t = let e = eqb-true first place t in comes-here place (arrival number first) rest e ∙ ap₂ _∷_ (ap (keepsAt number) e) (f e)
-      go false t = let e = eqb-false first place t in comes-else place (arrival number first) rest e ∙ g e
+  comes-once place first rest f g = comes-cases (λ l. l ≡ keepsAt number place ∷ []) place (arrival number first) rest (λ (e : first ≡ place). ap₂ _∷_ (ap (keepsAt number) e) (f e)) g
 
   pub not-before : (top place : ℕ) → top ≤ place → comesTo place (before number top) ≡ []
   unfolding before comesTo
@@ -55,17 +59,16 @@ module _ (number : ℕ) where
   before-once (suc top) place l =
       comes-once place top (before number top) (λ (e : top ≡ place). not-before top place (omega arith)) (λ (e : top ≡ place → ⊥). before-once top place (omega (arith, e)))
 
-  pub not-from : (more first place : ℕ) → (place < first) ⊎ (first + more ≤ place) → comesTo place (from number first more) ≡ []
+  pub not-from : (more first place : ℕ) → (first ≤ place → place < first + more → ⊥) → comesTo place (from number first more) ≡ []
   unfolding from comesTo
-  not-from zero first place l = refl
-  not-from (suc more) first place (inl l) =
-      comes-else place (arrival number first) (from number (suc first) more) (λ (e : first ≡ place). omega arith) ∙ not-from more (suc first) place (inl (omega arith))
-  not-from (suc more) first place (inr l) =
-      comes-else place (arrival number first) (from number (suc first) more) (λ (e : first ≡ place). omega arith) ∙ not-from more (suc first) place (inr (omega arith))
+  not-from zero first place h = refl
+  not-from (suc more) first place h =
+      comes-else place (arrival number first) (from number (suc first) more) (λ (e : first ≡ place). h (omega arith) (omega arith))
+      ∙ not-from more (suc first) place (λ (l : suc first ≤ place) (m : place < suc first + more). h (omega arith) (omega arith))
 
   pub from-once : (more first place : ℕ) → first ≤ place → place < first + more → comesTo place (from number first more) ≡ keepsAt number place ∷ []
   unfolding from
   from-once zero first place l m = absurd (omega arith)
   from-once (suc more) first place l m =
-      comes-once place first (from number (suc first) more) (λ (e : first ≡ place). not-from more (suc first) place (inl (omega arith)))
+      comes-once place first (from number (suc first) more) (λ (e : first ≡ place). not-from more (suc first) place (λ (k : suc first ≤ place) j. omega arith))
       (λ (e : first ≡ place → ⊥). from-once more (suc first) place (omega (arith, e)) (omega arith))

@@ -52,6 +52,6 @@ same-everywhere n number q a b trailers d e place = go (decLt n place) (eqb plac
 
 -- ---- a frame that names one vehicle names no other
 pub names-no-other : (p r : Position) (number : ℕ) → number / 2 ^ 16 % 2 ^ 8 < 240 → number / 2 ^ 8 % 2 ^ 8 ≡ addressOf r → p ≢ r → Named p number → ⊥
-names-no-other p r number h own apart (to-own l e) = apart (addresses-differ p r (sym e ∙ own))
-names-no-other p r number h own apart (to-all l e) = not-none r (sym global-is-none ∙ ap positionOf (sym e ∙ own) ∙ address-back r)
-names-no-other p r number h own apart (to-group l) = omega arith
+names-no-other p r number h named apart (to-own l e) = apart (addresses-differ p r (sym e ∙ named))
+names-no-other p r number h named apart (to-all l e) = not-none r (sym global-is-none ∙ ap positionOf (sym e ∙ named) ∙ address-back r)
+names-no-other p r number h named apart (to-group l) = omega arith

@@ -1,19 +1,16 @@
 -- All arrivals of a frame that a vehicle sends: those ahead of it, the nearest first, then those behind it, for any number of hands that is enough.
 use mathlib.Core.Path.{_≡_, refl, ap, ap₂, _∙_}
-use mathlib.Core.Bool.{Bool, true, false}
+use mathlib.Core.Bool.{Bool}
 use mathlib.Core.List.{List, [], _∷_, _++_}
 use Prim.Native.Nat.{ℕ, zero, suc, _+_, _-_, _≤_}
 use native.Mathlib.Omega.{arith}
-use Rattle.identifiers.specs.Choice.{pick}
 use Rattle.identifiers.proofs.LawsChoice.{pick-true, pick-false}
 use Rattle.readings.specs.declared.position.Position.{Position}
 use Rattle.readings.specs.declared.routing.Side.the-variants.{Predecessor, Successor}
-use Rattle.readings.specs.declared.routing.Onward.{Onward}
 use Rattle.readings.specs.Positions.{placeOf}
-use Rattle.readings.specs.Routes.{onwardOf}
-use Rattle.readings.proofs.LawsRoutes.{sent-on}
-use Rattle.delivery.specs.Hands.{Arrival, keptBy, onwardBy, sentOn, hasSuccessor, handed, toPredecessor, toSuccessor, delivered}
+use Rattle.delivery.specs.Hands.{Arrival, keptBy, onwardBy, hasSuccessor, handed, toPredecessor, toSuccessor, delivered}
 use Rattle.delivery.specs.Delivery.{Sent}
+use Rattle.delivery.proofs.LawsSides.{on-behind, on-ahead}
 use Rattle.delivery.proofs.LawsRoutesAt.{keepsAt, has-successor, has-none, trailer-at, towing-at}
 
 -- ---- the vehicles before a place, the nearest first, and so many from a place on, each with what it does with the frame
@@ -28,16 +25,6 @@ module _ (number : ℕ) where
   unfoldable pub from : ℕ → ℕ → List Arrival
   from place zero = []
   from place (suc more) = arrival place ∷ from (suc place) more
-
--- ---- on to the other side, from the one in front and from the one behind
-on-behind : (successor : Bool) (ahead behind : List Arrival) → sentOn (onwardOf Predecessor successor) ahead behind ≡ pick successor behind []
-unfolding sentOn pick
-on-behind true ahead behind = ap (λ (o : Onward). sentOn o ahead behind) (sent-on .0)
-on-behind false ahead behind = ap (λ (o : Onward). sentOn o ahead behind) (sent-on .1 .0)
-
-on-ahead : (successor : Bool) (ahead behind : List Arrival) → sentOn (onwardOf Successor successor) ahead behind ≡ ahead
-unfolding sentOn
-on-ahead successor ahead behind = ap (λ (o : Onward). sentOn o ahead behind) (sent-on .1 .1 successor)
 
 -- ---- a frame that the vehicle q sends
 module _ (own : ℕ → ℕ) (n number count : ℕ) (q : Position) (s : Sent own n number count q) where

@@ -4,6 +4,7 @@ use mathlib.Core.Bool.{Bool, true, false}
 use mathlib.Core.List.{List, []}
 use mathlib.Core.Logic.{_⊎_, inl, inr}
 use Prim.Native.Nat.{ℕ, suc}
+use Rattle.identifiers.specs.Choice.{pick}
 use Rattle.identifiers.specs.Identifiers.{framePassing}
 use Rattle.identifiers.specs.declared.identifier.Identifier.{Identifier}
 use Rattle.identifiers.specs.declared.identifier.IdentifierRead.{IdentifierRead}
@@ -46,6 +47,16 @@ module _ (side : Side) (behind : Bool) where
       go (At p) (read.Refused why) own e = inl (ap onwardBy (route-refused side place behind number count p why own e))
       go (At p) (read.Fields i) own e = rw (route-read side place behind number count p i own e) (by-source p i (positionOf (i .source)) refl)
 
+-- ---- on to the other side: to the predecessor, and to the successor where there is one
+pub on-ahead : (successor : Bool) (ahead behind : List Arrival) → sentOn (onwardOf Successor successor) ahead behind ≡ ahead
+unfolding sentOn
+on-ahead successor ahead behind = ap (λ (o : Onward). sentOn o ahead behind) (sent-on .1 .1 successor)
+
+pub on-behind : (successor : Bool) (ahead behind : List Arrival) → sentOn (onwardOf Predecessor successor) ahead behind ≡ pick successor behind []
+unfolding sentOn pick
+on-behind true ahead behind = ap (λ (o : Onward). sentOn o ahead behind) (sent-on .0)
+on-behind false ahead behind = ap (λ (o : Onward). sentOn o ahead behind) (sent-on .1 .0)
+
 -- ---- what comes of a frame behind its arrival at a trailer, and the place of the neighbour on the other side, where there is one
 abbrev pub next : Side → ℕ → ℕ
 next Successor p = p
@@ -61,16 +72,20 @@ module _ (own : ℕ → ℕ) (n number count : ℕ) where
 
 -- for two numbers of hands: what holds of nothing, and of that neighbour's hands, holds of it
 module _ (own : ℕ → ℕ) (n number count : ℕ) (R : List Arrival → List Arrival → Type 0) (none : R [] []) where
-  ahead : (o : Onward) (behind : Bool) (a b c d : List Arrival) → GoesOn Successor behind o → R a c → R (sentOn o a b) (sentOn o c d)
+  ahead : (o : Onward) (t : Bool) (a b c d : List Arrival) → GoesOn Successor t o → R a c → R (sentOn o a b) (sentOn o c d)
   unfolding sentOn
-  ahead o behind a b c d (inl e) some = rw e none
-  ahead o behind a b c d (inr e) some = rw (e ∙ sent-on .1 .1 behind) some
+  ahead o t a b c d (inl e) some = rw e none
+  ahead o t a b c d (inr e) some = rw (e, on-ahead t a b, on-ahead t c d) some
 
-  behind : (o : Onward) (behind : Bool) (a b c d : List Arrival) → GoesOn Predecessor behind o → (behind ≡ true → R b d) → R (sentOn o a b) (sentOn o c d)
+  picked : (t : Bool) (b d : List Arrival) → (t ≡ true → R b d) → R (pick t b []) (pick t d [])
+  unfolding pick
+  picked true b d some = some refl
+  picked false b d some = none
+
+  behind : (o : Onward) (t : Bool) (a b c d : List Arrival) → GoesOn Predecessor t o → (t ≡ true → R b d) → R (sentOn o a b) (sentOn o c d)
   unfolding sentOn
   behind o t a b c d (inl e) some = rw e none
-  behind o true a b c d (inr e) some = rw (e ∙ sent-on .0) (some refl)
-  behind o false a b c d (inr e) some = rw (e ∙ sent-on .1 .0) none
+  behind o t a b c d (inr e) some = rw (e, on-behind t a b, on-behind t c d) (picked t b d some)
 
   pub goes : (side : Side) (a b p : ℕ) → (HasNext n side p → R (handed own n number count a (next side p) side) (handed own n number count b (next side p) side))
       → R (rest own n number count a p side) (rest own n number count b p side)

@@ -1,31 +1,25 @@
 -- Whatever stands in a frame, it comes to no vehicle twice, and never back to its sender.
 use mathlib.Core.Path.{_≡_, refl, ap, ap₂, _∙_}
-use mathlib.Core.Bool.{Bool, true, false}
+use mathlib.Core.Bool.{Bool}
 use mathlib.Core.List.{List, [], _∷_, _++_}
 use mathlib.Core.Logic.{_⊎_, inl, inr}
 use Prim.Native.Nat.{ℕ, zero, suc, _≤_, _<_}
 use native.Mathlib.Decide.{decLt}
 use native.Mathlib.Omega.{arith}
-use lib.Dec.{eqb}
 use lib.ListN.{length, length-append}
-use borrow.Author.Tests.{eqb-true, eqb-false}
 use Rattle.readings.specs.declared.position.Position.{Position}
 use Rattle.readings.specs.declared.routing.Side.{Side}
 use Rattle.readings.specs.declared.routing.Side.the-variants.{Predecessor, Successor}
 use Rattle.readings.specs.Positions.{placeOf}
 use Rattle.delivery.specs.Hands.{Arrival, handed, toPredecessor, toSuccessor, delivered}
 use Rattle.delivery.specs.Delivery.{comesTo}
-use Rattle.delivery.proofs.LawsComes.{comes-here, comes-else, comes-append}
+use Rattle.delivery.proofs.LawsComes.{comes-cases, comes-else, comes-append}
 use Rattle.delivery.proofs.LawsNeighbours.{to-predecessor, to-successor}
 use Rattle.delivery.proofs.LawsSides.{next, rest, goes}
 
 -- the first comes to the place and no other does, or at most one of the others
 at-most : (place : ℕ) (a : Arrival) (others : List Arrival) → (a .at ≡ place → comesTo place others ≡ []) → length (comesTo place others) ≤ 1 → length (comesTo place (a ∷ others)) ≤ 1
-at-most place a others f g = go (eqb (a .at) place) refl
-  where
-    go : (t : Bool) → eqb (a .at) place ≡ t → length (comesTo place (a ∷ others)) ≤ 1
-    go true t = let e = eqb-true (a .at) place t in rw (comes-here place a others e, f e) (omega arith)
-    go false t = rw (comes-else place a others (eqb-false (a .at) place t)) g
+at-most place a others f g = comes-cases (λ l. length l ≤ 1) place a others (λ (e : a .at ≡ place). rw (f e) (omega arith)) (λ e. g)
 
 -- what is said of one list of arrivals, as a relation of two
 abbrev None : ℕ → List Arrival → List Arrival → Type 0
