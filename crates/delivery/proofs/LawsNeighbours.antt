@@ -1,13 +1,13 @@
 -- What the sender's neighbours make of its frame decides all arrivals: what holds of their hands holds of what is sent.
 use mathlib.Core.Path.{_≡_, refl, sym, ap₂, _∙_}
-use mathlib.Core.Bool.{Bool, true, false}
+use mathlib.Core.Bool.{true}
 use mathlib.Core.List.{List, [], _++_}
 use Prim.Native.Nat.{ℕ, zero, suc}
-use Rattle.identifiers.specs.Choice.{pick}
 use Rattle.readings.specs.declared.position.Position.{Position}
 use Rattle.readings.specs.declared.routing.Side.the-variants.{Predecessor, Successor}
 use Rattle.readings.specs.Positions.{placeOf}
 use Rattle.delivery.specs.Hands.{Arrival, hasSuccessor, handed, toPredecessor, toSuccessor, delivered}
+use Rattle.delivery.proofs.LawsSides.{picked}
 
 -- ---- of two frames, each with its number of hands: what holds of nothing, and of the neighbour's hands, holds of what the sender hands to that side
 module _ (own : ℕ → ℕ) (n number other count hands more : ℕ) (R : List Arrival → List Arrival → Type 0) (none : R [] []) where
@@ -19,13 +19,8 @@ module _ (own : ℕ → ℕ) (n number other count hands more : ℕ) (R : List A
 
   pub to-successor : (place : ℕ) → (hasSuccessor n place ≡ true → R (handed own n number count hands (suc place) Predecessor) (handed own n other count more (suc place) Predecessor))
       → R (toSuccessor own n number count hands place) (toSuccessor own n other count more place)
-  unfolding toSuccessor pick
-  to-successor place = go (hasSuccessor n place)
-    where
-      go : (t : Bool) → (t ≡ true → R (handed own n number count hands (suc place) Predecessor) (handed own n other count more (suc place) Predecessor))
-          → R (pick t (handed own n number count hands (suc place) Predecessor) []) (pick t (handed own n other count more (suc place) Predecessor) [])
-      go true some = some refl
-      go false some = none
+  unfolding toSuccessor
+  to-successor place = picked R none (hasSuccessor n place) _ _
 
 -- ---- where one list is the other, changed part by part, all arrivals are
 module _ (own : ℕ → ℕ) (n number other count hands more : ℕ) (change : List Arrival → List Arrival) (none : change [] ≡ []) (parts : (a b : List Arrival) → change (a ++ b) ≡ change a ++ change b) where

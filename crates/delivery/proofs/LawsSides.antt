@@ -57,6 +57,12 @@ unfolding sentOn pick
 on-behind true ahead behind = ap (λ (o : Onward). sentOn o ahead behind) (sent-on .0)
 on-behind false ahead behind = ap (λ (o : Onward). sentOn o ahead behind) (sent-on .1 .0)
 
+-- what holds of nothing, and of two lists where there is one, holds where there may be one
+pub picked : (R : List Arrival → List Arrival → Type 0) → R [] [] → (t : Bool) (a b : List Arrival) → (t ≡ true → R a b) → R (pick t a []) (pick t b [])
+unfolding pick
+picked R none true a b some = some refl
+picked R none false a b some = none
+
 -- ---- what comes of a frame behind its arrival at a trailer, and the place of the neighbour on the other side, where there is one
 abbrev pub next : Side → ℕ → ℕ
 next Successor p = p
@@ -77,15 +83,10 @@ module _ (own : ℕ → ℕ) (n number count : ℕ) (R : List Arrival → List A
   ahead o t a b c d (inl e) some = rw e none
   ahead o t a b c d (inr e) some = rw (e, on-ahead t a b, on-ahead t c d) some
 
-  picked : (t : Bool) (b d : List Arrival) → (t ≡ true → R b d) → R (pick t b []) (pick t d [])
-  unfolding pick
-  picked true b d some = some refl
-  picked false b d some = none
-
   behind : (o : Onward) (t : Bool) (a b c d : List Arrival) → GoesOn Predecessor t o → (t ≡ true → R b d) → R (sentOn o a b) (sentOn o c d)
   unfolding sentOn
   behind o t a b c d (inl e) some = rw e none
-  behind o t a b c d (inr e) some = rw (e, on-behind t a b, on-behind t c d) (picked t b d some)
+  behind o t a b c d (inr e) some = rw (e, on-behind t a b, on-behind t c d) (picked R none t b d some)
 
   pub goes : (side : Side) (a b p : ℕ) → (HasNext n side p → R (handed own n number count a (next side p) side) (handed own n number count b (next side p) side))
       → R (rest own n number count a p side) (rest own n number count b p side)
