@@ -17,3 +17,4 @@ pub mod LawsPages
 pub mod RankedPage
 pub mod RankedReadings
 pub mod WorkedPage
+pub mod LawsJoined

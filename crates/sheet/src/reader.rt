@@ -8,7 +8,7 @@ use crate::sheet_read::SheetRead;
 use identifiers::Refusal;
 
 // The most bytes that an input may have.
-const MOST_INPUT: usize = 65535;
+pub const MOST_INPUT: usize = 65535;
 
 // The three fields of a reading: they begin at its bytes 0, 4 and 8.
 fn reading_read(input: &[u8], at: usize) -> SheetRead
