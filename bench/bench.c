@@ -368,6 +368,58 @@ static void ranking_model(unsigned long rounds)
     }
 }
 
+/* ---- a sheet with holes mended -------------------------------------------------------------- */
+
+static void add_stray(void)
+{
+    input[input_length++] = 0xFF;
+}
+
+/* Readings with one stray byte before each. */
+static void holes(unsigned readings)
+{
+    for (unsigned i = 0; i < readings; i++) {
+        add_stray();
+        add_reading(0x0C, 0x7F, i);
+    }
+}
+
+static void holes_100(void) { holes(100); }
+static void holes_1000(void) { holes(1000); }
+
+/* As many as there can be, and stray bytes up to the longest input. */
+static void full_of_holes(void)
+{
+    holes(3640);
+    while (input_length < sizeof input) {
+        add_stray();
+    }
+}
+
+/* Each byte is the tag of a reading's first field, and none begins one. */
+static void no_reading(void)
+{
+    memset(input, 0x01, sizeof input);
+    input_length = sizeof input;
+}
+
+static void mend_archive(unsigned long rounds)
+{
+    static uint8_t kept[CASTANHIU_SHEET], page[CASTANHIU_PAGE];
+    for (unsigned long r = 0; r < rounds; r++) {
+        sink += castanhiu_mend(input, input_length, kept, page).kept;
+    }
+}
+
+static void mend_model(unsigned long rounds)
+{
+    static uint8_t kept[MODEL_SHEET_INPUT_MAX];
+    static char page[MODEL_SHEET_TEXT];
+    for (unsigned long r = 0; r < rounds; r++) {
+        sink += model_mend(input, input_length, kept, page).kept;
+    }
+}
+
 /* ---- the table ----------------------------------------------------------------------------- */
 
 typedef struct {
@@ -402,6 +454,11 @@ static const work works[] = {
     {"ranking-1000", 1, falling_1000, ranking_archive, ranking_model},
     {"ranking-100", 1, falling_100, ranking_archive, ranking_model},
     {"ranking-excluding", 1, excluding, ranking_archive, ranking_model},
+    {"mend-sound", 1, full_sheet, mend_archive, mend_model},
+    {"mend-holes", 1, full_of_holes, mend_archive, mend_model},
+    {"mend-nothing", 1, no_reading, mend_archive, mend_model},
+    {"mend-1000", 1, holes_1000, mend_archive, mend_model},
+    {"mend-100", 1, holes_100, mend_archive, mend_model},
 };
 
 enum { WORKS = sizeof works / sizeof works[0] };

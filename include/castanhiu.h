@@ -15,7 +15,7 @@
 #include <stddef.h>
 #include <stdint.h>
 
-enum { CASTANHIU_BUFFER = 1536, CASTANHIU_RESPONSE = 255, CASTANHIU_MESSAGE = 255, CASTANHIU_PAGE = 88701 };
+enum { CASTANHIU_BUFFER = 1536, CASTANHIU_RESPONSE = 255, CASTANHIU_MESSAGE = 255, CASTANHIU_PAGE = 88701, CASTANHIU_SHEET = 65535 };
 enum { CASTANHIU_PREDECESSOR = 0, CASTANHIU_SUCCESSOR = 1 };                                         /* from a side */
 enum { CASTANHIU_NOWHERE = 0, CASTANHIU_TO_PREDECESSOR = 1, CASTANHIU_TO_SUCCESSOR = 2 };            /* sent on */
 enum { CASTANHIU_VALUE = 0, CASTANHIU_RESERVED = 1, CASTANHIU_ERROR = 2, CASTANHIU_NOT_AVAILABLE = 3,
@@ -87,6 +87,7 @@ typedef struct {
 } castanhiu_record;
 typedef struct { uint8_t refusal; } castanhiu_record_answer;
 typedef struct { uint8_t refusal; bool silent; size_t length; } castanhiu_serve_answer;
+typedef struct { uint8_t refusal; uint32_t kept, listed; } castanhiu_mended;
 
 _Static_assert(sizeof(castanhiu_identifier) == 6 && sizeof(castanhiu_identifier_answer) == 7, "identifier");
 _Static_assert(sizeof(castanhiu_number_answer) == 8 && offsetof(castanhiu_number_answer, number) == 4, "number");
@@ -99,6 +100,7 @@ _Static_assert(sizeof(castanhiu_node_answer) == 1 && sizeof(castanhiu_outcome) =
 _Static_assert(sizeof(castanhiu_frame) == 16 && offsetof(castanhiu_frame, data) == 8, "frame");
 _Static_assert(sizeof(castanhiu_record) == 880 && offsetof(castanhiu_record, bytes) == 366, "record");
 _Static_assert(sizeof(castanhiu_record_answer) == 1 && sizeof(castanhiu_serve_answer) == 2 * sizeof(size_t), "record answers");
+_Static_assert(sizeof(castanhiu_mended) == 12 && offsetof(castanhiu_mended, kept) == 4, "mended");
 
 /* Reads the six fields of a 29-bit identifier.
  * Refuses: 2 a number of 2^29 or more.
@@ -193,5 +195,15 @@ size_t castanhiu_sheet_text(const uint8_t *input, size_t input_length, uint8_t p
 /* Prints the page of one mask from the same input: its readings whose basis is full, lowest count first, equal counts as in
  * the input; behind them its other readings, as in the input. Needs 31 kB of stack. Refuses and writes as above. */
 size_t castanhiu_ranking_text(const uint8_t *input, size_t input_length, uint8_t mask, uint8_t page[CASTANHIU_PAGE]);
+
+/* Mends a sheet with holes; answers how many bytes the kept readings have, and how many the list. From the start on, where a
+ * whole valid reading of 17 bytes begins, it is kept and the walk goes on behind it; otherwise one byte is dropped. The kept
+ * readings are written unchanged, a sheet that the count sheet accepts. The page lists each maximal dropped stretch, in order:
+ * `dropped LENGTH at OFFSET`, of the input. A reading cut within its count borrows the first bytes behind it, so that a sound
+ * neighbour may be dropped.
+ * Refuses: 21 an input of more than CASTANHIU_SHEET bytes.
+ * Memory: bytes past the kept readings and past the list stay, and all where refused. */
+castanhiu_mended castanhiu_mend(const uint8_t *input, size_t input_length, uint8_t kept[CASTANHIU_SHEET],
+                                uint8_t page[CASTANHIU_PAGE]);
 
 #endif

@@ -41,6 +41,7 @@ void castanhiu_inner_serve(served *, castanhiu_record *, slice *, bool, slice *)
 void castanhiu_inner_set_status(castanhiu_record_answer *, castanhiu_record *, uint32_t, uint8_t);
 uint64_t castanhiu_inner_sheet_text(slice *, uint8_t *);
 uint64_t castanhiu_inner_ranking_text(slice *, uint8_t, uint8_t *);
+void castanhiu_inner_mend(castanhiu_mended *, slice *, uint8_t *, uint8_t *);
 
 castanhiu_identifier_answer castanhiu_identifier_read(uint32_t number)
 {
@@ -167,4 +168,13 @@ size_t castanhiu_ranking_text(const uint8_t *input, size_t input_length, uint8_t
 {
     slice lent = {input, input_length};
     return (size_t)castanhiu_inner_ranking_text(&lent, mask, page);
+}
+
+castanhiu_mended castanhiu_mend(const uint8_t *input, size_t input_length, uint8_t kept[CASTANHIU_SHEET],
+                                uint8_t page[CASTANHIU_PAGE])
+{
+    castanhiu_mended answer;
+    slice lent = {input, input_length};
+    castanhiu_inner_mend(&answer, &lent, kept, page);
+    return answer;
 }

@@ -276,3 +276,13 @@ size_t model_ranking(const uint8_t *input, size_t length, uint8_t mask, char *te
 {
     return castanhiu_ranking_text(LENT(input), within(input, length), mask, (uint8_t *)text);
 }
+
+/* ---- mending ------------------------------------------------------------------------------- */
+
+_Static_assert((int)MODEL_SHEET_INPUT_MAX == (int)CASTANHIU_SHEET, "one sheet");
+
+model_mended model_mend(const uint8_t *input, size_t length, uint8_t *kept, char *list)
+{
+    const castanhiu_mended a = castanhiu_mend(LENT(input), within(input, length), kept, (uint8_t *)list);
+    return (model_mended){.kept = a.kept, .listed = a.listed, .refusal = a.refusal};
+}

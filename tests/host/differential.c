@@ -940,6 +940,95 @@ static void ranking(unsigned long count)
     end();
 }
 
+/* ---- mending ------------------------------------------------------------------------------- */
+
+static uint8_t our_kept[CASTANHIU_SHEET + 64], their_kept[CASTANHIU_SHEET + 64];
+
+/* A reading, or what is left of one, or stray bytes: at most 18 bytes. */
+static uint8_t *put_torn(uint8_t *to)
+{
+    put_reading(to);
+    const uint32_t place = below(17);
+    const uint8_t byte = (uint8_t)(one_in(2) ? any() : below(8));
+    switch (below(9)) {
+    case 0: /* cut behind: what looks like a reading's front */
+        return to + place;
+    case 1: /* cut in front */
+        memmove(to, to + place, 17 - place);
+        return to + 17 - place;
+    case 2: /* a byte dropped */
+        memmove(to + place, to + place + 1, 16 - place);
+        return to + 16;
+    case 3: /* a byte too many */
+        memmove(to + place + 1, to + place, 17 - place);
+        to[place] = byte;
+        return to + 18;
+    case 4: /* a byte altered */
+        to[place] = byte;
+        return to + 17;
+    case 5: /* one byte again and again */
+        memset(to, byte, place);
+        return to + place;
+    case 6:
+        fill(to, place);
+        return to + place;
+    default:
+        return to + 17;
+    }
+}
+
+/* A sheet with holes, or a sound one, or one byte again and again; now and then as long as a sheet can be, or a byte longer. */
+static size_t put_torn_sheet(void)
+{
+    const int longest = cases % 1024 == 0;
+    const size_t least = longest ? OF(65518, 65534, 65535, 65535, 65536, 65536) : below(OF(1, 40, 200));
+    const uint32_t kind = below(12);
+    if (kind == 0) {
+        memset(input, (int)below(4), least);
+        return least;
+    }
+    uint8_t *to = input;
+    while (to < input + least) {
+        if (kind == 1) {
+            put_reading(to);
+            to += 17;
+        } else {
+            to = put_torn(to);
+        }
+    }
+    return longest || one_in(3) ? least : (size_t)(to - input);
+}
+
+static void mending(unsigned long count)
+{
+    unsigned long kept = 0, mixed = 0;
+    begin("mend");
+    fresh_pages();
+    memset(our_kept, 0xEE, sizeof our_kept);
+    memset(their_kept, 0xEE, sizeof their_kept);
+    while (cases < count) {
+        const size_t length = put_torn_sheet();
+        const castanhiu_mended a = castanhiu_mend(input, length, our_kept, page);
+        const model_mended m = model_mend(input, length, their_kept, text);
+        SAME(a.refusal, m.refusal);
+        SAME(a.kept, m.kept);
+        SAME(a.listed, m.listed);
+        /* both arrays, and the bytes behind what is written; all of them now and then, and at the end */
+        const int all = length > 60000 || cases % 512 == 0 || cases + 1 == count;
+        SAME_BYTES(our_kept, their_kept, all ? sizeof our_kept : m.kept + 64);
+        SAME_BYTES(page, text, all ? sizeof page : m.listed + 64);
+        memset(our_kept, 0xEE, m.kept);
+        memset(their_kept, 0xEE, m.kept);
+        memset(page, 0xEE, m.listed);
+        memset(text, (char)0xEE, m.listed);
+        kept += m.kept / 17;
+        mixed += m.kept != 0 && m.listed != 0;
+        answered(m.refusal);
+    }
+    end();
+    printf("    of them %lu with bytes kept and bytes dropped; %lu readings kept\n", mixed, kept);
+}
+
 int main(int argc, char **argv)
 {
     if (argc != 3) {
@@ -958,6 +1047,7 @@ int main(int argc, char **argv)
     server(count);
     sheet(count);
     ranking(count);
+    mending(count);
     printf("the archive and the model agree\n");
     return 0;
 }

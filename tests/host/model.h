@@ -1,14 +1,15 @@
 /*
  * An independent model of document 01, identifier, vehicle addresses, route, readings, receiver and
- * cutter, server, count sheet; and of document 02's ranking.
+ * cutter, server, count sheet; and of document 02's ranking and mending.
  *
  * Refusal numbers are document 01's, 0 for none. On a refusal every other field of a result is 0,
  * save that refusal 11 of the receiver also says that overflow control is due and to whom.
  *
  * Every function is total in the values it is given. A pointer must lead to as many bytes as the
- * length beside it says (a length of 0 may go with a null pointer); pointers to a node, a record
- * and the sheet's text are never null. Lent memory that one call may write does not overlap with
- * what it reads. A flag is true when it is not 0; in results it is 0 or 1.
+ * length beside it says (a length of 0 may go with a null pointer); pointers to a node, a record,
+ * the sheet's text and what a mending writes are never null. Lent memory that one call may write
+ * does not overlap with what it reads, nor with what else it may write. A flag is true when it is
+ * not 0; in results it is 0 or 1.
  */
 #ifndef MODEL_H
 #define MODEL_H
@@ -226,5 +227,20 @@ size_t model_count_sheet(const uint8_t *input, size_t length, char *text);
  * counts as in the sheet, then its other readings as in the sheet.
  */
 size_t model_ranking(const uint8_t *input, size_t length, uint8_t mask, char *text);
+
+/* ---- mending ------------------------------------------------------------------------------- */
+
+typedef struct {
+    uint32_t kept;   /* bytes of the readings that are kept */
+    uint32_t listed; /* bytes of the list of what is dropped */
+    uint8_t refusal;
+} model_mended;
+
+/*
+ * Writes the whole valid readings of a sheet with holes into an array of MODEL_SHEET_INPUT_MAX
+ * bytes, and `dropped LENGTH at OFFSET` of each maximal dropped stretch into a list of
+ * MODEL_SHEET_TEXT bytes: 21, and both as found. No byte past either is written.
+ */
+model_mended model_mend(const uint8_t *input, size_t length, uint8_t *kept, char *list);
 
 #endif

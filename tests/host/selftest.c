@@ -1812,22 +1812,22 @@ static char text[MODEL_SHEET_TEXT];
 
 /*
  * Between two calls a page has no byte but this: of each text only its own bytes are taken back. So the rest of the page is looked
- * at now and then, and at the end, and a byte that any call wrote there is found.
+ * at now and then, and at the end, and a byte that any call wrote there is found. The same of the readings that a mending keeps.
  */
 enum { UNWRITTEN = '#' };
 static char page[MODEL_SHEET_TEXT];
+static uint8_t kept[MODEL_SHEET_INPUT_MAX];
 static char unwritten[MODEL_SHEET_TEXT];
 static unsigned long calls;
 
-static int rest_is_unwritten(size_t from)
+static int rest_is_unwritten(size_t from, size_t kept_from)
 {
-    return memcmp(page + from, unwritten, sizeof page - from) == 0;
+    return memcmp(page + from, unwritten, sizeof page - from) == 0 &&
+           memcmp(kept + kept_from, unwritten, sizeof kept - kept_from) == 0;
 }
 
-#define HEADER "position mask available count basis\n"
-
-/* The count sheet, or the page of a mask, of an input at the end of its own memory. */
-static int gives(const uint8_t *input, size_t length, const uint8_t *mask, const char *expected)
+/* An input at the end of its own memory, for one call. */
+static uint8_t *lent(const uint8_t *input, size_t length)
 {
     uint8_t *own = malloc(length ? length : 1);
     if (own == NULL) {
@@ -1836,13 +1836,23 @@ static int gives(const uint8_t *input, size_t length, const uint8_t *mask, const
     memcpy(own, input, length);
     if (calls == 0) {
         memset(page, UNWRITTEN, sizeof page);
+        memset(kept, UNWRITTEN, sizeof kept);
         memset(unwritten, UNWRITTEN, sizeof unwritten);
     }
     calls++;
+    return own;
+}
+
+#define HEADER "position mask available count basis\n"
+
+/* The count sheet, or the page of a mask. */
+static int gives(const uint8_t *input, size_t length, const uint8_t *mask, const char *expected)
+{
+    uint8_t *own = lent(input, length);
     const size_t n = mask == NULL ? model_count_sheet(own, length, page) : model_ranking(own, length, *mask, page);
     free(own);
     const int same = n == strlen(expected) && memcmp(page, expected, n) == 0 && page[n] == UNWRITTEN;
-    if (!same || (calls % 32 == 0 && !rest_is_unwritten(n))) {
+    if (!same || (calls % 32 == 0 && !rest_is_unwritten(n, 0))) {
         return 0;
     }
     memset(page, UNWRITTEN, n);
@@ -2168,6 +2178,322 @@ static void test_ranking_falling(void)
     free(expected);
 }
 
+/* ---- mending ------------------------------------------------------------------------------- */
+
+/* What is kept stands in `kept`, and the list on the page, until both are taken back. */
+static model_mended mended(const uint8_t *input, size_t length)
+{
+    uint8_t *own = lent(input, length);
+    const model_mended m = model_mend(own, length, kept, page);
+    free(own);
+    CHECK(m.kept <= sizeof kept && m.listed <= 3641 * 23);
+    CHECK((m.kept == sizeof kept || kept[m.kept] == UNWRITTEN) && page[m.listed] == UNWRITTEN);
+    CHECK(calls % 32 != 0 || rest_is_unwritten(m.listed, m.kept));
+    return m;
+}
+
+static void take_back(model_mended m)
+{
+    memset(kept, UNWRITTEN, m.kept);
+    memset(page, UNWRITTEN, m.listed);
+}
+
+static int mends(const uint8_t *input, size_t length, const uint8_t *whole, size_t whole_length, const char *list)
+{
+    const model_mended m = mended(input, length);
+    const int same = m.refusal == 0 && m.kept == whole_length && memcmp(kept, whole, whole_length) == 0 &&
+                     m.listed == strlen(list) && memcmp(page, list, m.listed) == 0;
+    take_back(m);
+    return same;
+}
+
+static void test_mending_worked(void)
+{
+    uint8_t whole[34], sheet[17 * 4];
+    put_reading(whole, 1, 0x08, 0x7F, 2);
+    put_reading(whole + 17, 2, 0x8C, 0x4B, 5);
+    CHECK(mends(whole, 34, whole, 34, ""));
+    CHECK(mends(whole, 17, whole, 17, ""));
+    CHECK(mends(whole, 0, whole, 0, ""));
+
+    /* three stray bytes, a reading, one stray byte */
+    memset(sheet, 0xAA, sizeof sheet);
+    memcpy(sheet + 3, whole, 17);
+    CHECK(mends(sheet, 21, whole, 17, "dropped 3 at 0\ndropped 1 at 20\n"));
+    CHECK(mends(sheet, 20, whole, 17, "dropped 3 at 0\n"));
+    CHECK(mends(sheet + 3, 18, whole, 17, "dropped 1 at 17\n"));
+    /* the reading without its last byte, and every length below */
+    for (size_t n = 1; n < 20; n++) {
+        char expected[40];
+        snprintf(expected, sizeof expected, "dropped %zu at 0\n", n);
+        CHECK(mends(sheet, n, whole, 0, expected));
+    }
+    /* ten stray bytes between two readings, and as many behind them; then two readings side by side */
+    memcpy(sheet, whole, 17);
+    memset(sheet + 17, 0xAA, 10);
+    memcpy(sheet + 27, whole + 17, 17);
+    CHECK(mends(sheet, 54, whole, 34, "dropped 10 at 17\ndropped 10 at 44\n"));
+    memcpy(sheet + 2, whole, 34);
+    memset(sheet, 0x01, 2);
+    CHECK(mends(sheet, 36, whole, 34, "dropped 2 at 0\n"));
+    /* nothing but holes, of what a reading begins with too */
+    memset(sheet, 0x01, sizeof sheet);
+    CHECK(mends(sheet, 17, whole, 0, "dropped 17 at 0\n"));
+    CHECK(mends(sheet, 68, whole, 0, "dropped 68 at 0\n"));
+    for (size_t k = 0; k < 4; k++) {
+        memcpy(sheet + 14 * k, whole, 14);
+    }
+    CHECK(mends(sheet, 56, whole, 0, "dropped 56 at 0\n"));
+}
+
+/*
+ * A reading without its first n bytes, and two sound ones behind it; then with its first n bytes alone. Cut within its count, it
+ * is whole with the first bytes of the next, of which the rest is dropped; cut before, it is dropped itself.
+ */
+static void test_mending_cut(void)
+{
+    uint8_t whole[51], sheet[51];
+    char expected[40];
+    for (size_t n = 1; n < 17; n++) {
+        put_reading(whole, 1, 0x08, 0x7F, 0x0203);
+        put_reading(whole + 17, 2, 0x8C, 0x4B, 5);
+        put_reading(whole + 34, 3, 0x8C, 0x4B, 6);
+        memcpy(sheet, whole + n, 17 - n);
+        memcpy(sheet + 17 - n, whole + 17, 34);
+        snprintf(expected, sizeof expected, "dropped %zu at 0\n", 17 - n);
+        CHECK(mends(sheet, 51 - n, whole + 17, 34, expected));
+
+        memcpy(sheet, whole, n);
+        memcpy(sheet + n, whole + 17, 34);
+        snprintf(expected, sizeof expected, "dropped %zu at %d\n", n, n < 15 ? 0 : 17);
+        if (n < 15) {
+            CHECK(mends(sheet, n + 34, whole + 17, 34, expected));
+            CHECK(mends(sheet, n + 17, whole + 17, 17, expected));
+        } else {
+            whole[15] = n < 16 ? 0x01 : 0x02;
+            whole[16] = n < 16 ? 0x00 : 0x01;
+            memcpy(whole + 17, whole + 34, 17);
+            CHECK(mends(sheet, n + 34, whole, 34, expected));
+            CHECK(mends(sheet, n + 17, whole, 17, expected));
+        }
+    }
+}
+
+/* A reading with each byte at each of its places, and a sound one behind it. */
+static void test_mending_bytes(void)
+{
+    uint8_t sheet[34];
+    put_reading(sheet, 1, 0x08, 0x7F, 2);
+    put_reading(sheet + 17, 2, 0x8C, 0x4B, 5);
+    for (size_t place = 0; place < 17; place++) {
+        const uint8_t was = sheet[place];
+        for (unsigned byte = 0; byte < 256; byte++) {
+            int sound = byte == was;
+            if (place == 3) {
+                sound = byte >= 1 && byte <= 5;
+            } else if (place == 13) {
+                sound = model_mask_keeps_rule((uint8_t)byte);
+            } else if (place == 7 || place >= 15) {
+                sound = 1;
+            }
+            sheet[place] = (uint8_t)byte;
+            CHECK(sound ? mends(sheet, 34, sheet, 34, "") : mends(sheet, 34, sheet + 17, 17, "dropped 17 at 0\n"));
+            CHECK(mends(sheet, 17, sheet, sound ? 17 : 0, sound ? "" : "dropped 17 at 0\n"));
+        }
+        sheet[place] = was;
+    }
+}
+
+/* The longest input: nothing but zeros, nothing but readings, the most stretches. */
+static void test_mending_longest(void)
+{
+    uint8_t *const big = calloc(65535, 1), *const whole = malloc(65535);
+    char *const expected = malloc(MODEL_SHEET_TEXT);
+    if (big == NULL || whole == NULL || expected == NULL) {
+        abort();
+    }
+    CHECK(mends(big, 65535, whole, 0, "dropped 65535 at 0\n"));
+    for (unsigned i = 0; i < 3855; i++) {
+        put_reading(whole + 17 * i, (uint8_t)(1 + i % 5), (uint8_t)i, 0x7F, 17 * i);
+    }
+    CHECK(mends(whole, 65535, whole, 65535, ""));
+    CHECK(mends(whole, 65534, whole, 65518, "dropped 16 at 65518\n"));
+
+    size_t at = 0;
+    for (unsigned i = 0; i < 3640; i++) {
+        memcpy(big + 18 * i + 1, whole + 17 * i, 17);
+        at += (size_t)sprintf(expected + at, "dropped 1 at %u\n", 18 * i);
+    }
+    CHECK(mends(big, 65520, whole, 61880, expected));
+    at += (size_t)sprintf(expected + at, "dropped 15 at 65520\n");
+    size_t stretches = 0;
+    for (size_t i = 0; i < at; i++) {
+        stretches += expected[i] == '\n';
+    }
+    CHECK(stretches == 3641 && mends(big, 65535, whole, 61880, expected));
+    free(big);
+    free(whole);
+    free(expected);
+}
+
+/* Over the longest input: refused, whatever it holds, and nothing is written. */
+static void test_mending_refused(void)
+{
+    static const size_t lengths[] = {65536, 65537, 65552};
+    uint8_t *const big = calloc(65552, 1);
+    if (big == NULL) {
+        abort();
+    }
+    model_mended m;
+    for (int turn = 0; turn < 2; turn++) {
+        for (int i = 0; i < 3; i++) {
+            m = mended(big, lengths[i]);
+            CHECK(m.refusal == 21 && m.kept == 0 && m.listed == 0 && rest_is_unwritten(0, 0));
+        }
+        for (unsigned i = 0; i < 3856; i++) {
+            put_reading(big + 17 * i, 1, 0x08, 0x7F, i);
+        }
+    }
+    free(big);
+    m = model_mend(NULL, SIZE_MAX, kept, page);
+    CHECK(m.refusal == 21 && m.kept == 0 && m.listed == 0 && rest_is_unwritten(0, 0));
+    m = model_mend(NULL, 0, kept, page);
+    CHECK(m.refusal == 0 && m.kept == 0 && m.listed == 0 && rest_is_unwritten(0, 0));
+}
+
+/* A reading, or what is left of one, or stray bytes: at most 18 bytes. */
+static uint8_t *put_torn(uint8_t *to)
+{
+    static const uint8_t availables[] = {0x49, 0x4B, 0x4F, 0x7F, 0xC9, 0xFF};
+    const uint8_t position = (uint8_t)(1 + below(5));
+    const uint8_t mask = (uint8_t)(below(2) ? below(4) : any());
+    const uint8_t available = availables[below(6)];
+    const unsigned count = below(2) ? 256 * below(4) : below(4) ? any() & 0xFFFF : 0xFFFF;
+    put_reading(to, position, mask, available, count);
+    const size_t place = below(17);
+    const uint8_t byte = (uint8_t)(below(2) ? below(7) : any());
+    switch (below(10)) {
+    case 0: /* cut behind */
+        return to + place;
+    case 1: /* cut in front */
+        memmove(to, to + place, 17 - place);
+        return to + 17 - place;
+    case 2: /* a byte dropped */
+        memmove(to + place, to + place + 1, 16 - place);
+        return to + 16;
+    case 3: /* a byte too many */
+        memmove(to + place + 1, to + place, 17 - place);
+        to[place] = byte;
+        return to + 18;
+    case 4: /* a byte altered */
+        to[place] = byte;
+        return to + 17;
+    case 5: /* stray bytes */
+        memset(to, byte, place);
+        return to + place;
+    default:
+        return to + 17;
+    }
+}
+
+/* Reads a line `dropped LENGTH at OFFSET` of the page: how many bytes it has, 0 where it is none. */
+static size_t dropped_line(const char *line, size_t *dropped, size_t *offset)
+{
+    char *end;
+    char again[64];
+    if (memcmp(line, "dropped ", 8) != 0) {
+        return 0;
+    }
+    *dropped = strtoul(line + 8, &end, 10);
+    *offset = memcmp(end, " at ", 4) == 0 ? strtoul(end + 4, &end, 10) : 0;
+    const int n = snprintf(again, sizeof again, "dropped %zu at %zu\n", *dropped, *offset);
+    return memcmp(line, again, (size_t)n) == 0 ? (size_t)n : 0;
+}
+
+static int is_sheet(const uint8_t *bytes, size_t length)
+{
+    const size_t n = model_count_sheet(bytes, length, text);
+    return n >= strlen(HEADER) && memcmp(text, HEADER, strlen(HEADER)) == 0;
+}
+
+/* These bytes of the input are kept, from this place on: readings one after the other, each a sheet of its own. */
+static void check_kept(const uint8_t *bytes, size_t length, size_t from)
+{
+    CHECK(length % 17 == 0 && memcmp(kept + from, bytes, length) == 0);
+    for (size_t k = 0; k < length; k += 17) {
+        CHECK(is_sheet(bytes + k, 17));
+    }
+}
+
+/* The sentences, of what a mending kept and listed: kept and dropped bytes together are the input in order. */
+static void check_sentences(const uint8_t *input, size_t length, model_mended m)
+{
+    size_t at = 0, taken = 0;
+    for (size_t row = 0; row < m.listed;) {
+        size_t dropped, offset;
+        const size_t n = dropped_line(page + row, &dropped, &offset);
+        CHECK(n > 0 && n <= m.listed - row);
+        /* a stretch is not empty, and behind the one before it stands a reading */
+        CHECK(dropped > 0 && (row == 0 ? offset >= at : offset > at) && offset <= length && dropped <= length - offset);
+        CHECK(offset - at <= m.kept - taken);
+        check_kept(input + at, offset - at, taken);
+        taken += offset - at;
+        /* no dropped byte begins a whole valid reading */
+        for (at = offset; at < offset + dropped; at++) {
+            CHECK(length - at < 17 || !is_sheet(input + at, 17));
+        }
+        row += n;
+    }
+    CHECK(length - at == m.kept - taken);
+    check_kept(input + at, length - at, taken);
+    CHECK(is_sheet(kept, m.kept));
+}
+
+/* One sheet with holes; what comes out is a sound one, and so comes out unchanged. Scratch has as many bytes as the sheet. */
+static model_mended check_mending(const uint8_t *input, size_t length, uint8_t *scratch)
+{
+    const model_mended m = mended(input, length);
+    CHECK(m.refusal == 0 && m.kept <= length);
+    check_sentences(input, length, m);
+    memcpy(scratch, kept, m.kept);
+    take_back(m);
+    CHECK(mends(scratch, m.kept, scratch, m.kept, ""));
+    /* a sound sheet is one of which nothing is dropped */
+    CHECK(is_sheet(input, length) == (m.listed == 0));
+    return m;
+}
+
+static void test_mending_random(void)
+{
+    unsigned long kinds[4] = {0};
+    for (int i = 0; i < 50000; i++) {
+        uint8_t input[18 * 8], scratch[18 * 8];
+        uint8_t *to = input;
+        for (uint32_t parts = below(9); parts > 0; parts--) {
+            to = put_torn(to);
+        }
+        const model_mended m = check_mending(input, (size_t)(to - input), scratch);
+        kinds[2 * (m.kept != 0) + (m.listed != 0)]++;
+    }
+    for (int k = 0; k < 4; k++) {
+        CHECK(kinds[k] > 500);
+    }
+
+    uint8_t *const big = malloc(65535 + 17), *const scratch = malloc(65535);
+    if (big == NULL || scratch == NULL) {
+        abort();
+    }
+    for (int i = 0; i < 4; i++) {
+        for (uint8_t *to = big; to < big + 65535;) {
+            to = put_torn(to);
+        }
+        const model_mended m = check_mending(big, 65535, scratch);
+        CHECK(m.kept > 17 * 1000 && m.listed > 15 * 500);
+    }
+    free(big);
+    free(scratch);
+}
+
 int main(int argc, char **argv)
 {
     if (argc != 2) {
@@ -2193,7 +2519,13 @@ int main(int argc, char **argv)
     test_ranking_worked();
     test_ranking_random();
     test_ranking_falling();
-    CHECK(rest_is_unwritten(0));
+    test_mending_worked();
+    test_mending_cut();
+    test_mending_bytes();
+    test_mending_longest();
+    test_mending_refused();
+    test_mending_random();
+    CHECK(rest_is_unwritten(0, 0));
     printf("selftest of the %s: %lu checks passed\n", argv[1], checks);
     return 0;
 }

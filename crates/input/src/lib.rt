@@ -13,6 +13,7 @@ pub use standard_input::Input;
 pub use standard_input::MOST_CHUNKS;
 pub use standard_input::read_chunk;
 pub use standard_input::read_whole;
+pub use standard_output::say_lines;
 pub use standard_output::unread;
 pub use standard_output::usage;
 pub use standard_output::write;

@@ -25,6 +25,13 @@ pub fn unread(name: &[u8]) {
     say(name, b": standard input could not be read");
 }
 
+// Lines to standard error; that they do not arrive can be said nowhere.
+pub fn say_lines(lines: &[u8]) {
+    if lines.len() != 0 {
+        io::write_all(STDERR_FILENO, lines);
+    }
+}
+
 // Writes the text to standard output; where that fails it says so and answers false.
 pub fn write(name: &[u8], text: &[u8]) -> bool
     ensures { λ r. ⌜ emptyWritten (length (now (text .entry))) r ≡ true ⌝ }
