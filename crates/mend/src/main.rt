@@ -52,22 +52,16 @@ fn mend_sheet(words: usize, sheet: &[u8])
 }
 
 // The buffer takes one byte more than a sheet may have, so that a longer input is seen to be too long.
-fn answer(words: usize)
-    requires { ⌜ words ≡ 0 ⌝ }
-{
-    let mut buffer = io::large_buffer();
-    let Input::Bytes(n) = input::read_whole(&mut buffer) else {
-        input::unread(b"mend");
-        return;
-    };
-    mend_sheet(words, &buffer[..n]);
-}
-
 fn main() {
     let words = input::words();
     if words != 0 {
         input::usage(b"mend < SHEET > MENDED");
         return;
     }
-    answer(words);
+    let mut buffer = io::large_buffer();
+    let Input::Bytes(n) = input::read_whole(&mut buffer) else {
+        input::unread(b"mend");
+        return;
+    };
+    mend_sheet(words, &buffer[..n]);
 }

@@ -1,20 +1,19 @@
 -- Laws of the list: of pieces in a row, a line each, and that it fits the page.
 use mathlib.Core.Path.{_≡_, refl, sym, ap, _∙_}
-use mathlib.Core.Bool.{true, false}
 use mathlib.Core.List.{List, [], _∷_, _++_, append-nil, append-assoc}
 use Prim.Native.Nat.{ℕ, _+_, _*_, _≤_}
 use native.Mathlib.Omega.{arith}
 use borrow.Author.Tests.{eq-eqb, ne-eqb}
 use lib.ListN.{length, take, drop, length-append, length-drop}
-use lib.Seq.{length-take-le}
 use Rattle.identifiers.specs.Choice.{pick}
 use Rattle.identifiers.proofs.LawsChoice.{pick-true, pick-false}
 use Rattle.text.specs.Digits.{decimal, newlines}
 use Rattle.text.proofs.LawsDigits.{length-decimal, newlines-append, newlines-decimal, one-newline}
 use Rattle.sheet.specs.Text.{pageSize}
-use Rattle.mending.specs.Pieces.{begins, Piece, Kept, Dropped, ended, pieces, joined}
+use Rattle.mending.specs.Pieces.{Piece, Kept, Dropped, ended, walk, pieces, joined}
 use Rattle.mending.specs.Listed.{stretchLine, stretchText, linesFrom, stretchLines, stretchesIn}
 use Rattle.mending.proofs.LawsWalk.{begins-whole, ended-none, by-walk}
+use Rattle.mending.proofs.LawsWalked.{walked}
 
 -- ---- a stretch
 pub no-stretch : (o n : ℕ) → n ≡ 0 → stretchText o n ≡ []
@@ -77,47 +76,48 @@ newlines-lines o (Kept bytes ∷ ps) = newlines-lines (o + length bytes) ps
 newlines-lines o (Dropped bytes ∷ ps) =
     newlines-append (stretchLine o (length bytes)) (linesFrom (o + length bytes) ps) ∙ omega (arith, newlines-line o (length bytes), newlines-lines (o + length bytes) ps)
 
--- ---- the page: a stretch has a line of at most 23 bytes, and between two stretches stand 17 bytes
+-- ---- between two stretches stand 17 bytes
+in-ended : (d : List ℕ) (ps : List Piece) → stretchesIn (ended d ++ ps) ≡ length (ended d) + stretchesIn ps
+unfolding ended stretchesIn
+in-ended [] ps = omega arith
+in-ended (b ∷ d) ps = refl
+
+in-kept : (bytes : List ℕ) (ps : List Piece) → stretchesIn (Kept bytes ∷ ps) ≡ stretchesIn ps
+unfolding stretchesIn
+in-kept bytes ps = refl
+
+in-none : stretchesIn [] ≡ 0
+unfolding stretchesIn
+in-none = refl
+
 length-ended : (d : List ℕ) → length (ended d) ≤ 1
 unfolding ended
 length-ended [] = omega arith
 length-ended (b ∷ d) = omega arith
 
-length-stretch : (o : ℕ) (d : List ℕ) → o + length d ≤ 65535 → length (stretchText o (length d)) ≤ 23 * length (ended d)
-unfolding ended
-length-stretch o [] l = omega (arith, ap length (no-stretch o 0 refl))
-length-stretch o (b ∷ d) l =
-    omega (arith, ap length (a-stretch o (length (b ∷ d)) (λ (e : length (b ∷ d) ≡ 0). omega arith)), length-line o (length (b ∷ d)) (omega arith) (omega arith))
+few : (d s : List ℕ) → 18 * stretchesIn (walk 0 d s) ≤ length s + 17 + length (ended d)
+few d s =
+    by-walk (λ d s ps. 18 * stretchesIn ps ≤ length s + 17 + length (ended d))
+    (λ d. omega (arith, length-ended d, ap stretchesIn (append-nil (ended d)), in-ended d [], in-none))
+    (λ d s ps e (h : 18 * stretchesIn ps ≤ length (drop 17 s) + 17 + length (ended [])).
+    omega (arith, h, length-ended d, ap length ended-none, begins-whole s e, length-drop 17 s, in-ended d (Kept (take 17 s) ∷ ps), in-kept (take 17 s) ps))
+    (λ d b s ps e (h : 18 * stretchesIn ps ≤ length s + 17 + length (ended (d ++ (b ∷ [])))). omega (arith, h, length-ended (d ++ (b ∷ []))))
+    d
+    s
 
-abbrev Bounded : List ℕ → List ℕ → List Piece → Type 0
-Bounded d s ps = (o : ℕ) → o + length d + length s ≤ 65535 → 18 * length (linesFrom o ps) ≤ 23 * (length s + 17 + length (ended d))
+pub few-stretches : (s : List ℕ) → 18 * stretchesIn (pieces s) ≤ length s + 17
+unfolding pieces
+few-stretches s = omega (arith, few [] s, ap length ended-none)
 
-bounded-end : (d : List ℕ) → Bounded d [] (ended d)
-bounded-end d o l = omega (arith, length-ended d, length-stretch o d (omega arith), ap length (lines-last o d))
-
-bounded-keep : (d s : List ℕ) (ps : List Piece) → begins s ≡ true → Bounded [] (drop 17 s) ps → Bounded d s (ended d ++ (Kept (take 17 s) ∷ ps))
-bounded-keep d s ps e h o l =
-    let whole = begins-whole s e in
-    let long : length (take 17 s) ≡ 17 = length-take-le 17 s whole in
-    let back = length-drop 17 s in
-    let at = o + length d + length (take 17 s) in
-    let more : 18 * length (linesFrom at ps) ≤ 23 * (length (drop 17 s) + 17 + length (ended [])) = h at (omega arith) in
-    omega (
-      arith,
-      more,
-      back,
-      whole,
-      ap length ended-none,
-      length-ended d,
-      length-stretch o d (omega arith),
-      ap length (lines-ended o d (Kept (take 17 s) ∷ ps)),
-      length-append (stretchText o (length d)) (linesFrom (o + length d) (Kept (take 17 s) ∷ ps)),
-      ap length (lines-kept (o + length d) (take 17 s) ps),
-    )
-
-bounded-drop : (d : List ℕ) (b : ℕ) (s : List ℕ) (ps : List Piece) → begins (b ∷ s) ≡ false → Bounded (d ++ (b ∷ [])) s ps → Bounded d (b ∷ s) ps
-bounded-drop d b s ps e h o l = omega (arith, h o (omega (arith, length-append d (b ∷ []))), length-ended (d ++ (b ∷ [])))
+-- ---- the page: a line has at most 23 bytes
+length-lines : (o : ℕ) (ps : List Piece) → o + length (joined ps) ≤ 65535 → length (linesFrom o ps) ≤ 23 * stretchesIn ps
+unfolding linesFrom joined stretchesIn
+length-lines o [] l = omega arith
+length-lines o (Kept bytes ∷ ps) l = length-lines (o + length bytes) ps (omega (arith, length-append bytes (joined ps)))
+length-lines o (Dropped bytes ∷ ps) l =
+    let both = length-append bytes (joined ps) in
+    omega (arith, length-append (stretchLine o (length bytes)) (linesFrom (o + length bytes) ps), length-line o (length bytes) (omega arith) (omega arith), length-lines (o + length bytes) ps (omega arith))
 
 pub lines-fit : (s : List ℕ) → length s ≤ 65535 → length (stretchLines s) ≤ pageSize
 unfolding stretchLines pieces
-lines-fit s l = omega (arith, by-walk Bounded bounded-end bounded-keep bounded-drop (length s) [] s (omega arith) 0 (omega arith), length-ended [])
+lines-fit s l = omega (arith, length-lines 0 (pieces s) (omega (arith, ap length (walked [] s .whole))), few-stretches s)

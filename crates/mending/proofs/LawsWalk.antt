@@ -64,15 +64,20 @@ walk-drop dropped b s e = pick-false _ _ e
 
 -- ---- every walk
 -- what holds at the end, where a reading is kept and where a byte is dropped, holds of the whole walk
-pub by-walk : (P : List ℕ → List ℕ → List Piece → Type 0) → ((dropped : List ℕ) → P dropped [] (ended dropped))
-    → ((dropped s : List ℕ) (ps : List Piece) → begins s ≡ true → P [] (drop 17 s) ps → P dropped s (ended dropped ++ (Kept (take 17 s) ∷ ps)))
-    → ((dropped : List ℕ) (b : ℕ) (s : List ℕ) (ps : List Piece) → begins (b ∷ s) ≡ false → P (dropped ++ (b ∷ [])) s ps → P dropped (b ∷ s) ps)
-    → (n : ℕ) (dropped s : List ℕ) → length s ≤ n → P dropped s (walk 0 dropped s)
-by-walk P ends keeps drops zero dropped [] l = rw (walk-end dropped [] refl) (ends dropped)
-by-walk P ends keeps drops zero dropped (b ∷ s) l = absurd (omega arith)
-by-walk P ends keeps drops (suc n) dropped [] l = rw (walk-end dropped [] refl) (ends dropped)
-by-walk P ends keeps drops (suc n) dropped (b ∷ s) l = by-test (begins (b ∷ s)) refl (λ d r m. by-walk P ends keeps drops n d r m)
-  where
-    by-test : (t : Bool) → begins (b ∷ s) ≡ t → ((dropped s : List ℕ) → length s ≤ n → P dropped s (walk 0 dropped s)) → P dropped (b ∷ s) (walk 0 dropped (b ∷ s))
-    by-test true e more = rw (walk-keep dropped (b ∷ s) e) (keeps dropped (b ∷ s) (walk 0 [] (drop 17 (b ∷ s))) e (more [] (drop 17 (b ∷ s)) (omega (arith, length-drop 17 (b ∷ s)))))
-    by-test false e more = rw (walk-drop dropped b s e) (drops dropped b s (walk 0 (dropped ++ (b ∷ [])) s) e (more (dropped ++ (b ∷ [])) s (omega arith)))
+module _ (P : List ℕ → List ℕ → List Piece → Type 0) (ends : (dropped : List ℕ) → P dropped [] (ended dropped))
+    (keeps : (dropped s : List ℕ) (ps : List Piece) → begins s ≡ true → P [] (drop 17 s) ps → P dropped s (ended dropped ++ (Kept (take 17 s) ∷ ps)))
+    (drops : (dropped : List ℕ) (b : ℕ) (s : List ℕ) (ps : List Piece) → begins (b ∷ s) ≡ false → P (dropped ++ (b ∷ [])) s ps → P dropped (b ∷ s) ps) where
+  by-steps : (n : ℕ) (dropped s : List ℕ) → length s ≤ n → P dropped s (walk 0 dropped s)
+  by-steps zero dropped [] l = rw (walk-end dropped [] refl) (ends dropped)
+  by-steps zero dropped (b ∷ s) l = absurd (omega arith)
+  by-steps (suc n) dropped [] l = rw (walk-end dropped [] refl) (ends dropped)
+  by-steps (suc n) dropped (b ∷ s) l = by-test (begins (b ∷ s)) refl (λ d r m. by-steps n d r m)
+    where
+      by-test : (t : Bool) → begins (b ∷ s) ≡ t → ((d r : List ℕ) → length r ≤ n → P d r (walk 0 d r)) → P dropped (b ∷ s) (walk 0 dropped (b ∷ s))
+      by-test true e more =
+          let rest = drop 17 (b ∷ s) in
+          rw (walk-keep dropped (b ∷ s) e) (keeps dropped (b ∷ s) (walk 0 [] rest) e (more [] rest (omega (arith, length-drop 17 (b ∷ s)))))
+      by-test false e more = rw (walk-drop dropped b s e) (drops dropped b s (walk 0 (dropped ++ (b ∷ [])) s) e (more (dropped ++ (b ∷ [])) s (omega arith)))
+
+  pub by-walk : (dropped s : List ℕ) → P dropped s (walk 0 dropped s)
+  by-walk dropped s = by-steps (length s) dropped s (omega arith)

@@ -51,10 +51,8 @@ walked d s =
       whole = joined-append (ended d) (Kept (take 17 s) ∷ ps) ∙ ap₂ _++_ (joined-ended d) (joined-kept s ps (h .whole));
     })
     (λ d b s ps e h. record { stand = λ q. h .stand (quiet-more d b s e q); whole = h .whole ∙ append-snoc d b s })
-    (length s)
     d
     s
-    (omega arith)
 
 -- ---- and no others
 begins-kept : (bytes rest : List ℕ) → isReading bytes ≡ true → begins (bytes ++ rest) ≡ true

@@ -27,7 +27,7 @@ use Rattle.mending.proofs.LawsWalk.{begins-judged, ended-none, walk-end
 use Rattle.mending.proofs.LawsPieces.{silent, Stand, stand-mending, mending-stand}
 use Rattle.mending.proofs.LawsWalked.{joined-append, walked, stand-walk}
 use Rattle.mending.proofs.LawsKept.{kept-none, kept-first, kept-accepted}
-use Rattle.mending.proofs.LawsListed.{no-stretch, lines-last, lines-kept, lines-append, newlines-lines, lines-fit}
+use Rattle.mending.proofs.LawsListed.{no-stretch, lines-last, lines-kept, lines-append, newlines-lines, few-stretches, lines-fit}
 use Rattle.mending.proofs.LawsMended.{too-long, mended-length, mends-not, answered-written, answered-refused}
 
 -- ---- the walk's pieces are as `Mending` says, and no others are
@@ -98,6 +98,10 @@ twice-is-once s l = sound-unchanged (mended s) (always-accepted s l)
 pub a-line-each : (s : List ℕ) → newlines (stretchLines s) ≡ stretchesIn (pieces s)
 unfolding stretchLines
 a-line-each s = newlines-lines 0 (pieces s)
+
+-- and no more than 3,641 of them, since a whole reading stands between two
+pub most-stretches : (s : List ℕ) → length s ≤ 65535 → stretchesIn (pieces s) ≤ 3641
+most-stretches s l = omega (arith, few-stretches s)
 
 pub record ListedStretch (s : List ℕ) (front back : List Piece) (bytes : List ℕ) : Type 0 where
   pub line : stretchLines s ≡ linesFrom 0 front ++ (stretchLine (length (joined front)) (length bytes) ++ linesFrom (length (joined front) + length bytes) back)
