@@ -36,6 +36,18 @@ pub begins-whole : (s : List ℕ) → begins s ≡ true → 17 ≤ length s
 unfolding begins
 begins-whole s e = omega (arith, reading-is (take 17 s) e .0, length-take 17 s)
 
+pub begins-not : (s : List ℕ) → (sheetRead (take 17 s) ≡ Accepted → ⊥) → begins s ≡ false
+unfolding begins
+begins-not s n = by-test (begins s) refl
+  where
+    by-test : (t : Bool) → begins s ≡ t → begins s ≡ false
+    by-test true e = absurd (n (reading-is (take 17 s) e .1))
+    by-test false e = e
+
+pub is-reading : (bytes : List ℕ) → length bytes ≡ 17 → sheetRead bytes ≡ Accepted → isReading bytes ≡ true
+unfolding isReading accepts
+is-reading bytes l e = sym (so (eq-eqb _ _ l) (ap accepts (sym e)))
+
 -- ---- one step
 pub ended-none : ended [] ≡ []
 unfolding ended

@@ -7,7 +7,7 @@ use Prim.Native.Nat.{ℕ}
 use native.Mathlib.Omega.{arith}
 use lib.ListN.{length, take, drop, take-append-drop}
 use lib.Seq.{append-snoc, take-at, drop-at}
-use Rattle.mending.specs.Pieces.{isReading, begins, Piece, Kept, Dropped, ended, walk, joined}
+use Rattle.mending.specs.Pieces.{isReading, begins, Piece, Kept, Dropped, ended, walk, pieces, joined}
 use Rattle.mending.proofs.LawsWalk.{reading-is, walk-end, walk-keep, walk-drop, by-walk}
 use Rattle.mending.proofs.LawsPieces.{Quiet, silent, more, Closed, kept-closed, none-closed, Stand, none, kept, dropped}
 
@@ -58,6 +58,34 @@ walked d s =
 begins-kept : (bytes rest : List ℕ) → isReading bytes ≡ true → begins (bytes ++ rest) ≡ true
 unfolding begins
 begins-kept bytes rest e = ap isReading (take-at bytes rest 17 (reading-is bytes e .0)) ∙ e
+
+pub pieces-kept : (bytes rest : List ℕ) → isReading bytes ≡ true → pieces (bytes ++ rest) ≡ Kept bytes ∷ pieces rest
+unfolding pieces ended
+pieces-kept bytes rest r =
+    let long = reading-is bytes r .0 in
+    walk-keep [] (bytes ++ rest) (begins-kept bytes rest r)
+    ∙ ap₂ (λ (x y : List ℕ). Kept x ∷ walk 0 [] y) (take-at bytes rest 17 long) (drop-at bytes rest 17 long)
+
+-- a byte that begins no reading begins a stretch
+pub record StretchFirst (b : ℕ) (ps : List Piece) : Type 0 where
+  pub bytes : List ℕ
+  pub back : List Piece
+  pub is : ps ≡ Dropped (b ∷ bytes) ∷ back
+
+open-stretch : (b : ℕ) (d s : List ℕ) → StretchFirst b (walk 0 (b ∷ d) s)
+unfolding ended
+open-stretch b d s =
+    by-walk (λ d s ps. (rest : List ℕ) → d ≡ b ∷ rest → StretchFirst b ps) (λ d rest (e : d ≡ b ∷ rest). rw e (record { bytes = rest; back = []; is = refl }))
+    (λ d s ps f h rest (e : d ≡ b ∷ rest). rw e (record { bytes = rest; back = Kept (take 17 s) ∷ ps; is = refl }))
+    (λ d c s ps f h rest (e : d ≡ b ∷ rest). h (rest ++ (c ∷ [])) (ap (λ (x : List ℕ). x ++ (c ∷ [])) e))
+    (b ∷ d)
+    s
+    d
+    refl
+
+pub pieces-dropped : (b : ℕ) (s : List ℕ) → begins (b ∷ s) ≡ false → StretchFirst b (pieces (b ∷ s))
+unfolding pieces
+pieces-dropped b s e = rw (walk-drop [] b s e) (open-stretch b [] s)
 
 walk-quiet : (bytes d s : List ℕ) → Quiet bytes s → walk 0 d (bytes ++ s) ≡ walk 0 (d ++ bytes) s
 walk-quiet [] d s silent = ap (λ (x : List ℕ). walk 0 x s) (sym (append-nil d))

@@ -10,3 +10,4 @@ pub mod LawsMended
 pub mod MendedSheet
 pub mod LawsTexts
 pub mod Examples
+pub mod CutCount

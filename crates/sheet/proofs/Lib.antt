@@ -18,3 +18,4 @@ pub mod RankedPage
 pub mod RankedReadings
 pub mod WorkedPage
 pub mod LawsJoined
+pub mod LawsCount
