@@ -23,6 +23,12 @@ list-is c =
     let answered = c .before .before .before .mend .ensures in
     list-stands _ _ (length-replicate {A = ℕ} pageSize 0) (sym (answered .0) ∙ c .before .end .given .1) (answered .1)
 
+send-requires : tie.Need-send-requires
+send-requires c κs = (c .before .before .before .before .before .before .before .before .pre, sheet-is (c .before) .whole)
+
+list-requires : tie.Need-list-requires
+list-requires c κs = list-is (c .before .before .before .before) .whole
+
 refuse-requires : tie.Need-refuse-requires
 refuse-requires c κs =
     let at-mend = c .before .before in
@@ -37,11 +43,11 @@ mend-sheet-spec =
     (λ c. search needs)
     (λ c. sheet-is c .within)
     (λ c. sym (length-take-le _ _ (sheet-is (c .before) .within)))
-    (λ c κs. (c .before .before .before .before .before .before .before .before .pre, sheet-is (c .before) .whole))
+    send-requires
     (λ c. search needs)
     (λ c. list-is (c .before .before .before) .within)
     (λ c. sym (length-take-le _ _ (list-is (c .before .before .before .before) .within)))
-    (λ c κs. list-is (c .before .before .before .before) .whole)
+    list-requires
     (λ c. search needs)
     refuse-requires
     (λ c. search needs)
