@@ -4,14 +4,16 @@ use mathlib.Core.List.{List}
 use Prim.Native.Nat.{ℕ, _≤_, _<_}
 use native.Mathlib.Omega.{arith}
 use lib.ListN.{length, take}
+use Rattle.identifiers.specs.Bytes.{Puts}
+use Rattle.identifiers.specs.Choice.{pick}
 use Rattle.identifiers.proofs.LawsBytes.{keeps-length, puts-whole}
-use Rattle.identifiers.proofs.LawsChoice.{pick-true, pick-false}
+use Rattle.identifiers.proofs.LawsChoice.{taken, pick-false}
 use Rattle.identifiers.specs.Refusals.{refusal}
-use Rattle.sheet.specs.Text.{pageSize}
+use Rattle.sheet.specs.Text.{pageSize, refusalLine}
 use Rattle.sheet.specs.Printed.{printed}
 use Rattle.sheet.proofs.LawsSheets.{sheet-21}
 use Rattle.sheet.proofs.LawsPrinted.{printed-refused}
-use Rattle.mending.specs.Mended.{mendedAs, Mends, sheetText, listText}
+use Rattle.mending.specs.Mended.{tooLong, mendedAs, Mends, sheetText, listText}
 use Rattle.mending.specs.declared.mended.Mended.the-variants.{Written}
 use Rattle.mending.proofs.LawsListed.{lines-fit}
 use Rattle.mending.proofs.LawsMended.{too-long, not-too-long, mended-length, answered-written}
@@ -21,31 +23,25 @@ pub record Stands (text array : List ℕ) (end : ℕ) : Type 0 where
   pub within : end ≤ length array
   pub whole : take end array ≡ text
 
-module _ {s kept₀ page₀ kept page : List ℕ} where
-  pub sheet-stands : (end listed : ℕ) → length kept₀ ≡ 65535 → mendedAs s ≡ Written end listed → Mends s kept₀ page₀ kept page → Stands (sheetText s) kept end
-  unfolding sheetText
-  sheet-stands end listed k e m =
-      let h = answered-written end listed e m in
-      let p = h .1 .0 in
-      record {
-        within = omega (arith, p .ends, keeps-length p, mended-length s, h .0);
-        whole = puts-whole (omega (arith, mended-length s, h .0)) p ∙ sym (pick-false _ _ (not-too-long s (h .0)));
-      }
+-- what was put from the start on, where it fits and the input is not refused
+put-stands : {array after text : List ℕ} {end : ℕ} (s line : List ℕ) → length s ≤ 65535 → length text ≤ length array → Puts array 0 text end after
+    → Stands (pick (tooLong s) line text) after end
+put-stands s line short fits p =
+    record { within = omega (arith, p .ends, keeps-length p); whole = puts-whole fits p ∙ sym (pick-false _ _ (not-too-long s short)) }
 
-  pub list-stands : (end listed : ℕ) → length page₀ ≡ pageSize → mendedAs s ≡ Written end listed → Mends s kept₀ page₀ kept page → Stands (listText s) page listed
+module _ {s kept₀ page₀ kept page : List ℕ} (end listed : ℕ) (e : mendedAs s ≡ Written end listed) (m : Mends s kept₀ page₀ kept page) where
+  pub sheet-stands : length kept₀ ≡ 65535 → Stands (sheetText s) kept end
+  unfolding sheetText
+  sheet-stands k = let h = answered-written end listed e m in put-stands s (refusalLine 21 0) (h .0) (omega (arith, mended-length s, h .0)) (h .1 .0)
+
+  pub list-stands : length page₀ ≡ pageSize → Stands (listText s) page listed
   unfolding listText
-  list-stands end listed l e m =
-      let h = answered-written end listed e m in
-      let p = h .1 .1 in
-      let fits = lines-fit s (h .0) in
-      record {
-        within = omega (arith, p .ends, keeps-length p, fits);
-        whole = puts-whole (omega arith) p ∙ sym (pick-false _ _ (not-too-long s (h .0)));
-      }
+  list-stands l = let h = answered-written end listed e m in put-stands s (refusalLine 21 0) (h .0) (omega (arith, lines-fit s (h .0))) (h .1 .1)
 
 -- too long: the count sheet prints the line
 pub refused-text : (s : List ℕ) → 65535 < length s → (printed s ≡ sheetText s) × (printed s ≡ listText s)
 unfolding sheetText listText
 refused-text s l =
     let line = printed-refused s (refusal 21) 0 (sheet-21 s l) in
-    (line ∙ sym (pick-true _ _ (too-long s l)), line ∙ sym (pick-true _ _ (too-long s l)))
+    let long = too-long s l in
+    (taken _ long line, taken _ long line)

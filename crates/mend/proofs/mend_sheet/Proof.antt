@@ -15,13 +15,13 @@ sheet-is : (c : tie.After-known-told) → let at-mend = c .before .before .befor
     Stands (sheetText (at-mend .before .before .before .before .args .sheet .now)) (at-mend .mend .last .1 .0) (c .before .end .given .0 .0)
 sheet-is c =
     let answered = c .before .before .before .mend .ensures in
-    sheet-stands _ _ (length-replicate {A = ℕ} 65535 0) (sym (answered .0) ∙ c .before .end .given .1) (answered .1)
+    sheet-stands _ _ (sym (answered .0) ∙ c .before .end .given .1) (answered .1) (length-replicate {A = ℕ} 65535 0)
 
 list-is : (c : tie.After-known-told) → let at-mend = c .before .before .before in
     Stands (listText (at-mend .before .before .before .before .args .sheet .now)) (at-mend .mend .last .1 .1 .0) (c .before .end .given .0 .1 .0)
 list-is c =
     let answered = c .before .before .before .mend .ensures in
-    list-stands _ _ (length-replicate {A = ℕ} pageSize 0) (sym (answered .0) ∙ c .before .end .given .1) (answered .1)
+    list-stands _ _ (sym (answered .0) ∙ c .before .end .given .1) (answered .1) (length-replicate {A = ℕ} pageSize 0)
 
 send-requires : tie.Need-send-requires
 send-requires c κs = (c .before .before .before .before .before .before .before .before .pre, sheet-is (c .before) .whole)
