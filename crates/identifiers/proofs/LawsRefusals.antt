@@ -11,7 +11,7 @@ use Rattle.identifiers.specs.Refusals.{refusal, numberOf}
 use Rattle.identifiers.proofs.LawsBelow.{all-at}
 use Rattle.identifiers.specs.declared.refusal.Refusal.{Refusal}
 use Rattle.identifiers.specs.declared.refusal.Refusal.the-variants.{RulesBroken, IdentifierTooLarge, TooManyDataBytes, ReservedBitSet, NotDiagnostic, NoOtherVehicle, OtherDestination, OtherUnit, Malformed, FlowControl, OverLong, NothingOpen}
-use Rattle.identifiers.specs.declared.refusal.Refusal.the-variants.{WrongNumber, Late, NoAddress, NotWritable, WrongLength, CodeNotHeld, StatusOutsideMask, NoReading, InputTooLong, FieldCutShort, WrongTagOrLength, WrongContent}
+use Rattle.identifiers.specs.declared.refusal.Refusal.the-variants.{WrongNumber, Late, NoAddress, NotWritable, WrongLength, CodeNotHeld, StatusOutsideMask, NoReading, InputTooLong, FieldCutShort, WrongTagOrLength, WrongContent, MalformedLine}
 
 pub refusal-of-number : (r : Refusal) → refusal (numberOf r) ≡ r
 refusal-of-number RulesBroken = refl
@@ -38,18 +38,19 @@ refusal-of-number InputTooLong = refl
 refusal-of-number FieldCutShort = refl
 refusal-of-number WrongTagOrLength = refl
 refusal-of-number WrongContent = refl
+refusal-of-number MalformedLine = refl
 
 -- the number of the refusal that stands at i + 1
 right : ℕ → Bool
 right i = eqb (numberOf (refusal (i + 1))) (i + 1)
 
-all-right : allBelow right 24 ≡ true
+all-right : allBelow right 25 ≡ true
 unfolding allBelow both right
 all-right = refl
 
-pub number-of-refusal : (n : ℕ) → 1 ≤ n → n ≤ 24 → numberOf (refusal n) ≡ n
+pub number-of-refusal : (n : ℕ) → 1 ≤ n → n ≤ 25 → numberOf (refusal n) ≡ n
 unfolding right
 number-of-refusal n a b =
     let e : n - 1 + 1 ≡ n = omega arith in
-    let h : numberOf (refusal (n - 1 + 1)) ≡ n - 1 + 1 = eqb-true _ _ (all-at right (n - 1) 24 all-right (omega arith)) in
+    let h : numberOf (refusal (n - 1 + 1)) ≡ n - 1 + 1 = eqb-true _ _ (all-at right (n - 1) 25 all-right (omega arith)) in
     rw e at h

@@ -4,7 +4,7 @@ use Prim.Native.Nat.{ℕ, _-_}
 use lib.ListN.{getD}
 use Rattle.identifiers.specs.declared.refusal.Refusal.{Refusal}
 use Rattle.identifiers.specs.declared.refusal.Refusal.the-variants.{RulesBroken, IdentifierTooLarge, TooManyDataBytes, ReservedBitSet, NotDiagnostic, NoOtherVehicle, OtherDestination, OtherUnit, Malformed, FlowControl, OverLong, NothingOpen}
-use Rattle.identifiers.specs.declared.refusal.Refusal.the-variants.{WrongNumber, Late, NoAddress, NotWritable, WrongLength, CodeNotHeld, StatusOutsideMask, NoReading, InputTooLong, FieldCutShort, WrongTagOrLength, WrongContent}
+use Rattle.identifiers.specs.declared.refusal.Refusal.the-variants.{WrongNumber, Late, NoAddress, NotWritable, WrongLength, CodeNotHeld, StatusOutsideMask, NoReading, InputTooLong, FieldCutShort, WrongTagOrLength, WrongContent, MalformedLine}
 
 -- the cases in the order of their numbers, from 1 on
 abbrev pub refusals : List Refusal
@@ -33,9 +33,10 @@ refusals =
     ∷ FieldCutShort
     ∷ WrongTagOrLength
     ∷ WrongContent
+    ∷ MalformedLine
     ∷ []
 
--- the refusal of a number 1 to 24: `refusal 9` is what "refusal 9" says
+-- the refusal of a number 1 to 25: `refusal 9` is what "refusal 9" says
 abbrev pub refusal : ℕ → Refusal
 refusal n = getD refusals (n - 1) RulesBroken
 
@@ -64,3 +65,4 @@ numberOf InputTooLong = 21
 numberOf FieldCutShort = 22
 numberOf WrongTagOrLength = 23
 numberOf WrongContent = 24
+numberOf MalformedLine = 25

@@ -27,6 +27,7 @@ pub enum Refusal {
     FieldCutShort,
     WrongTagOrLength,
     WrongContent,
+    MalformedLine,
 }
 
 impl Refusal {
@@ -58,6 +59,7 @@ impl Refusal {
             Refusal::FieldCutShort => 22,
             Refusal::WrongTagOrLength => 23,
             Refusal::WrongContent => 24,
+            Refusal::MalformedLine => 25,
         }
     }
 }

@@ -100,6 +100,11 @@ length-some n = by-size (ltb n 10) refl
     by-size true e = omega (arith, length-one n (ltb-true _ _ e))
     by-size false e = omega (arith, length-more n (ltb-false _ _ e))
 
+-- a byte is its two digits
+pub hex-is : (n : ℕ) → hex n ≡ hexDigit (n / 16) ∷ hexDigit (n % 16) ∷ []
+unfolding hex
+hex-is n = refl
+
 pub length-hex : (n : ℕ) → length (hex n) ≡ 2
 unfolding hex
 length-hex n = refl

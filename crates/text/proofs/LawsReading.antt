@@ -11,7 +11,7 @@ use lib.Dec.{eqb, ltb}
 use lib.ListN.{length, getD, drop, drop-of-length-le}
 use lib.Seq.{drop-cons}
 use Rattle.identifiers.specs.Choice.{both}
-use Rattle.identifiers.proofs.LawsChoice.{taken, passed, stop, both-false, both-true, by-test}
+use Rattle.identifiers.proofs.LawsChoice.{taken, passed, stop, both-false, both-true, both-assoc, true-after, by-test}
 use Rattle.text.specs.Digits.{decimalIn, decimal, hexDigit, hex, digitValue, isDigit, valueFrom}
 use Rattle.text.specs.Reading.{allDigits, isNumber, digitsRead}
 use Rattle.text.specs.declared.reading.DigitsRead.the-variants.{Number, NoNumber}
@@ -92,6 +92,28 @@ pub digits-append : (base : ℕ) (xs ys : List ℕ) → allDigits base xs ≡ tr
 unfolding allDigits both
 digits-append base [] ys a b = b
 digits-append base (x ∷ xs) ys a b = let t = both-true (isDigit base x) (allDigits base xs) a in rw (t .0) (digits-append base xs ys (t .1) b)
+
+-- digits one by one
+pub digits-none : (base : ℕ) → allDigits base [] ≡ true
+unfolding allDigits
+digits-none base = refl
+
+pub digits-first : (base b : ℕ) (xs : List ℕ) → allDigits base (b ∷ xs) ≡ both (isDigit base b) (allDigits base xs)
+unfolding allDigits
+digits-first base b xs = refl
+
+pub digits-last : (base : ℕ) (xs : List ℕ) (b : ℕ) → allDigits base (xs ++ (b ∷ [])) ≡ both (allDigits base xs) (isDigit base b)
+unfolding allDigits both
+digits-last base [] b = true-after (isDigit base b)
+digits-last base (x ∷ xs) b = ap (both (isDigit base x)) (digits-last base xs b) ∙ sym (both-assoc (isDigit base x) (allDigits base xs) (isDigit base b))
+
+pub value-none : (base n : ℕ) → valueFrom base n [] ≡ n
+unfolding valueFrom
+value-none base n = refl
+
+pub value-first : (base n b : ℕ) (xs : List ℕ) → valueFrom base n (b ∷ xs) ≡ valueFrom base (n * base + digitValue b) xs
+unfolding valueFrom
+value-first base n b xs = refl
 
 pub one-digit : (base b : ℕ) {v : ℕ} → v ≡ digitValue b → v < base → allDigits base (b ∷ []) ≡ true
 unfolding allDigits both

@@ -9,9 +9,18 @@ use lib.Seq.{length-take-le}
 use Rattle.readings.specs.declared.position.Position.{Position}
 use Rattle.receiver.specs.declared.frame.Judged.the-variants.{First}
 use Rattle.receiver.specs.Frames.{Frame}
-use Rattle.trains.specs.Sequences.{Line, _▹_, physicalOf, due, Request, seen, Passed, elsewhere, too-short, Next, Underway, begins, passes, goes-on, Complete, Stands, single, train, ReadAs, none-yet, no-more, one-more}
+use Rattle.trains.specs.Sequences.{Line, start, _▹_, size, physicalOf, due, Request, seen, Passed, elsewhere, too-short, Next, Underway, begins, passes, goes-on, Complete, Stands, single, train, ReadAs, none-yet, no-more, one-more}
 use Rattle.receiver.proofs.LawsFrames.{fair}
 use Rattle.trains.specs.Terms.{Within, same, later, origin, Rests}
+
+-- how many frames a sequence has
+pub size-none : size start ≡ 0
+unfolding size
+size-none = refl
+
+pub size-more : (h : Line) (f : Frame) → size (h ▹ f) ≡ suc (size h)
+unfolding size
+size-more h f = refl
 
 -- the numbers of a train under way
 pub record Bounded (L k : ℕ) (b : List ℕ) : Type 0 where
