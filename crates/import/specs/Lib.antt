@@ -1,0 +1,2 @@
+-- The root of the crate's definitions.
+pub mod Counting
