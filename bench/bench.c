@@ -420,6 +420,109 @@ static void mend_model(unsigned long rounds)
     }
 }
 
+/* ---- lines of a log read, and written ------------------------------------------------------- */
+
+enum { LOG_LINES = 1000 };
+
+static struct {
+    uint8_t text[64], data[8];
+    size_t length, count;
+    uint32_t number, stamp;
+} logged[LOG_LINES];
+
+/* Spread numbers, the same in every run. */
+static uint32_t spread;
+
+static uint32_t next(void)
+{
+    spread ^= spread << 13;
+    spread ^= spread >> 17;
+    spread ^= spread << 5;
+    return spread;
+}
+
+/* Lines of four seconds, from two interfaces: half have 8 data bytes, the others 0 to 8; a tenth have a name of three digits. */
+static void log_lines(void)
+{
+    spread = 1;
+    for (unsigned i = 0; i < LOG_LINES; i++) {
+        char *const to = (char *)logged[i].text;
+        int at = sprintf(to, "(%u.%06u)", 1436509052 + i / 250, next() % 1000000);
+        at += sprintf(to + at, " can%u ", next() % 2);
+        at += next() % 10 == 0 ? sprintf(to + at, "%03X#", next() % 0x800) : sprintf(to + at, "%08X#", next() % 0x20000000);
+        for (unsigned bytes = next() % 2 == 0 ? 8 : next() % 9; bytes > 0; bytes--) {
+            at += sprintf(to + at, "%02X", next() % 256);
+        }
+        logged[i].length = (size_t)at;
+    }
+}
+
+/* A quarter of them have a carriage return at some place, or behind. */
+static void broken_lines(void)
+{
+    log_lines();
+    for (unsigned i = 0; i < LOG_LINES; i++) {
+        if (next() % 4 == 0) {
+            const size_t place = next() % (logged[i].length + 1);
+            logged[i].length += place == logged[i].length;
+            logged[i].text[place] = '\r';
+        }
+    }
+}
+
+static void log_frames(void)
+{
+    spread = 1;
+    for (unsigned i = 0; i < LOG_LINES; i++) {
+        logged[i].number = next() % 0x20000000;
+        logged[i].stamp = next();
+        logged[i].count = next() % 2 == 0 ? 8 : next() % 9;
+        for (unsigned k = 0; k < 8; k++) {
+            logged[i].data[k] = (uint8_t)next();
+        }
+    }
+}
+
+static void log_read_archive(unsigned long rounds)
+{
+    static uint8_t data[CASTANHIU_DATA];
+    for (unsigned long r = 0; r < rounds; r++) {
+        for (unsigned i = 0; i < LOG_LINES; i++) {
+            sink += castanhiu_log_read(logged[i].text, logged[i].length, data).stamp;
+        }
+    }
+}
+
+static void log_read_model(unsigned long rounds)
+{
+    static uint8_t data[8];
+    for (unsigned long r = 0; r < rounds; r++) {
+        for (unsigned i = 0; i < LOG_LINES; i++) {
+            sink += model_log_read(logged[i].text, logged[i].length, data).stamp;
+        }
+    }
+}
+
+static void log_write_archive(unsigned long rounds)
+{
+    static uint8_t text[CASTANHIU_LOG_TEXT];
+    for (unsigned long r = 0; r < rounds; r++) {
+        for (unsigned i = 0; i < LOG_LINES; i++) {
+            sink += castanhiu_log_write(logged[i].number, logged[i].data, logged[i].count, logged[i].stamp, text).length;
+        }
+    }
+}
+
+static void log_write_model(unsigned long rounds)
+{
+    static char text[MODEL_LOG_TEXT];
+    for (unsigned long r = 0; r < rounds; r++) {
+        for (unsigned i = 0; i < LOG_LINES; i++) {
+            sink += model_log_write(logged[i].number, logged[i].data, logged[i].count, logged[i].stamp, text).length;
+        }
+    }
+}
+
 /* ---- the table ----------------------------------------------------------------------------- */
 
 typedef struct {
@@ -459,6 +562,9 @@ static const work works[] = {
     {"mend-nothing", 1, no_reading, mend_archive, mend_model},
     {"mend-1000", 1, holes_1000, mend_archive, mend_model},
     {"mend-100", 1, holes_100, mend_archive, mend_model},
+    {"log-read", LOG_LINES, log_lines, log_read_archive, log_read_model},
+    {"log-read-broken", LOG_LINES, broken_lines, log_read_archive, log_read_model},
+    {"log-write", LOG_LINES, log_frames, log_write_archive, log_write_model},
 };
 
 enum { WORKS = sizeof works / sizeof works[0] };

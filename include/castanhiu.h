@@ -15,7 +15,8 @@
 #include <stddef.h>
 #include <stdint.h>
 
-enum { CASTANHIU_BUFFER = 1536, CASTANHIU_RESPONSE = 255, CASTANHIU_MESSAGE = 255, CASTANHIU_PAGE = 88701, CASTANHIU_SHEET = 65535 };
+enum { CASTANHIU_BUFFER = 1536, CASTANHIU_RESPONSE = 255, CASTANHIU_MESSAGE = 255, CASTANHIU_PAGE = 88701, CASTANHIU_SHEET = 65535,
+       CASTANHIU_DATA = 8, CASTANHIU_LOG_TEXT = 48 };
 enum { CASTANHIU_PREDECESSOR = 0, CASTANHIU_SUCCESSOR = 1 };                                         /* from a side */
 enum { CASTANHIU_NOWHERE = 0, CASTANHIU_TO_PREDECESSOR = 1, CASTANHIU_TO_SUCCESSOR = 2 };            /* sent on */
 enum { CASTANHIU_VALUE = 0, CASTANHIU_RESERVED = 1, CASTANHIU_ERROR = 2, CASTANHIU_NOT_AVAILABLE = 3,
@@ -48,7 +49,8 @@ enum {
     CASTANHIU_INPUT_TOO_LONG = 21,       /* a sheet of more than 65,535 bytes */
     CASTANHIU_FIELD_CUT_SHORT = 22,      /* a sheet's field cut short */
     CASTANHIU_WRONG_TAG_OR_LENGTH = 23,  /* a sheet's field with another tag or length */
-    CASTANHIU_WRONG_CONTENT = 24         /* a sheet's field with wrong content */
+    CASTANHIU_WRONG_CONTENT = 24,        /* a sheet's field with wrong content */
+    CASTANHIU_MALFORMED_LINE = 25        /* a log's line of another form */
 };
 
 typedef struct { uint8_t priority, reserved, data_page, format, specific, source; } castanhiu_identifier; /* P, R, DP, PF, PS, SA */
@@ -88,6 +90,8 @@ typedef struct {
 typedef struct { uint8_t refusal; } castanhiu_record_answer;
 typedef struct { uint8_t refusal; bool silent; size_t length; } castanhiu_serve_answer;
 typedef struct { uint8_t refusal; uint32_t kept, listed; } castanhiu_mended;
+typedef struct { uint8_t refusal; bool passed_over; uint8_t length; uint32_t identifier, stamp; } castanhiu_log_frame;
+typedef struct { uint8_t refusal, length; } castanhiu_log_line;
 
 _Static_assert(sizeof(castanhiu_identifier) == 6 && sizeof(castanhiu_identifier_answer) == 7, "identifier");
 _Static_assert(sizeof(castanhiu_number_answer) == 8 && offsetof(castanhiu_number_answer, number) == 4, "number");
@@ -101,6 +105,8 @@ _Static_assert(sizeof(castanhiu_frame) == 16 && offsetof(castanhiu_frame, data) 
 _Static_assert(sizeof(castanhiu_record) == 880 && offsetof(castanhiu_record, bytes) == 366, "record");
 _Static_assert(sizeof(castanhiu_record_answer) == 1 && sizeof(castanhiu_serve_answer) == 2 * sizeof(size_t), "record answers");
 _Static_assert(sizeof(castanhiu_mended) == 12 && offsetof(castanhiu_mended, kept) == 4, "mended");
+_Static_assert(sizeof(castanhiu_log_frame) == 12 && offsetof(castanhiu_log_frame, identifier) == 4, "log frame");
+_Static_assert(sizeof(castanhiu_log_line) == 2, "log line");
 
 /* Reads the six fields of a 29-bit identifier.
  * Refuses: 2 a number of 2^29 or more.
@@ -205,5 +211,22 @@ size_t castanhiu_ranking_text(const uint8_t *input, size_t input_length, uint8_t
  * Memory: bytes past the kept readings and past the list stay, and all where refused. */
 castanhiu_mended castanhiu_mend(const uint8_t *input, size_t input_length, uint8_t kept[CASTANHIU_SHEET],
                                 uint8_t page[CASTANHIU_PAGE]);
+
+/* Reads one line of a log, given without its newline: `(SECONDS.MICROSECONDS) INTERFACE ID#DATA`, as candump writes
+ * `(12.003000) can0 18CEC9EB#05023E00`. It has one or more decimal digits of seconds, and six of microseconds; one or more
+ * blanks before the interface, whose bytes are 21 to 7E, and one behind it; three or eight hexadecimal digits, then an even
+ * number of them up to 16; no other byte, and at most 255 bytes: of a longer line the first 256 are enough. With eight digits
+ * it is a frame, with `length` bytes in the data; its stamp is whole milliseconds, rounded down, modulo 2^32. With three it is
+ * passed over, and all other numbers are 0.
+ * Refuses: 25 a line of another form, then 2 an identifier of 2^29 or more.
+ * Memory: the line is left as found; bytes of the data past the length stay, and all where refused or passed over. */
+castanhiu_log_frame castanhiu_log_read(const uint8_t *line, size_t length, uint8_t data[CASTANHIU_DATA]);
+
+/* Writes the line of a frame, of `length` bytes with its newline: `(SECONDS.MICROSECONDS) can0 ID#DATA`, seconds without padding,
+ * hexadecimal digits in capitals. Without the newline it reads as that frame.
+ * Refuses: 2 an identifier of 2^29 or more, 3 more than 8 data bytes.
+ * Memory: the data is left as found; bytes of the text past the line stay, and all where refused. */
+castanhiu_log_line castanhiu_log_write(uint32_t identifier, const uint8_t *data, size_t data_length, uint32_t stamp_ms,
+                                       uint8_t text[CASTANHIU_LOG_TEXT]);
 
 #endif

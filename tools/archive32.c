@@ -42,6 +42,8 @@ void castanhiu_inner_set_status(castanhiu_record_answer *, castanhiu_record *, u
 uint64_t castanhiu_inner_sheet_text(slice *, uint8_t *);
 uint64_t castanhiu_inner_ranking_text(slice *, uint8_t, uint8_t *);
 void castanhiu_inner_mend(castanhiu_mended *, slice *, uint8_t *, uint8_t *);
+void castanhiu_inner_log_read(castanhiu_log_frame *, slice *, uint8_t *);
+void castanhiu_inner_log_write(castanhiu_log_line *, uint32_t, slice *, uint32_t, uint8_t *);
 
 castanhiu_identifier_answer castanhiu_identifier_read(uint32_t number)
 {
@@ -176,5 +178,22 @@ castanhiu_mended castanhiu_mend(const uint8_t *input, size_t input_length, uint8
     castanhiu_mended answer;
     slice lent = {input, input_length};
     castanhiu_inner_mend(&answer, &lent, kept, page);
+    return answer;
+}
+
+castanhiu_log_frame castanhiu_log_read(const uint8_t *line, size_t length, uint8_t data[CASTANHIU_DATA])
+{
+    castanhiu_log_frame answer;
+    slice lent = {line, length};
+    castanhiu_inner_log_read(&answer, &lent, data);
+    return answer;
+}
+
+castanhiu_log_line castanhiu_log_write(uint32_t identifier, const uint8_t *data, size_t data_length, uint32_t stamp_ms,
+                                       uint8_t text[CASTANHIU_LOG_TEXT])
+{
+    castanhiu_log_line answer;
+    slice lent = {data, data_length};
+    castanhiu_inner_log_write(&answer, identifier, &lent, stamp_ms, text);
     return answer;
 }

@@ -286,3 +286,25 @@ model_mended model_mend(const uint8_t *input, size_t length, uint8_t *kept, char
     const castanhiu_mended a = castanhiu_mend(LENT(input), within(input, length), kept, (uint8_t *)list);
     return (model_mended){.kept = a.kept, .listed = a.listed, .refusal = a.refusal};
 }
+
+/* ---- logs ---------------------------------------------------------------------------------- */
+
+_Static_assert((int)MODEL_LOG_TEXT == (int)CASTANHIU_LOG_TEXT, "one text");
+
+model_log_frame model_log_read(const uint8_t *line, size_t length, uint8_t *data)
+{
+    const castanhiu_log_frame a = castanhiu_log_read(LENT(line), within(line, length), data);
+    return (model_log_frame){
+        .identifier = a.identifier,
+        .stamp = a.stamp,
+        .refusal = a.refusal,
+        .passed_over = a.passed_over,
+        .length = a.length,
+    };
+}
+
+model_log_line model_log_write(uint32_t number, const uint8_t *data, size_t data_length, uint32_t stamp, char *text)
+{
+    const castanhiu_log_line a = castanhiu_log_write(number, LENT(data), within(data, data_length), stamp, (uint8_t *)text);
+    return (model_log_line){.refusal = a.refusal, .length = a.length};
+}

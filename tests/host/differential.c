@@ -1029,6 +1029,181 @@ static void mending(unsigned long count)
     printf("    of them %lu with bytes kept and bytes dropped; %lu readings kept\n", mixed, kept);
 }
 
+/* ---- logs ---------------------------------------------------------------------------------- */
+
+enum { LOG_LINE = 640 };
+
+static uint8_t *put_some(uint8_t *to, const char *bytes, uint32_t of_bytes, uint32_t count)
+{
+    for (uint32_t i = 0; i < count; i++) {
+        *to++ = (uint8_t)bytes[below(of_bytes)];
+    }
+    return to;
+}
+
+static const char hexadecimal[] = "0123456789ABCDEFabcdef";
+
+/* One blank, a name of three or eight digits, the mark and the data. */
+static size_t put_named_data(uint8_t *line)
+{
+    uint8_t *to = line;
+    *to++ = ' ';
+    if (one_in(4)) {
+        to = put_some(to, hexadecimal, 22, 3);
+    } else {
+        const uint32_t number = one_in(4) ? OF(0x1FFFFFFE, 0x1FFFFFFF, 0x20000000, 0x20000001, 0x2FFFFFFF, 0, 0xFFFFFFFF) : an_identifier();
+        const uint32_t small = one_in(3) ? any() : 0;
+        for (unsigned i = 0; i < 8; i++) {
+            const uint32_t digit = number >> (28 - 4 * i) & 15;
+            *to++ = (uint8_t)hexadecimal[digit > 9 && (small >> i & 1) != 0 ? digit + 6 : digit];
+        }
+    }
+    *to++ = '#';
+    to = put_some(to, hexadecimal, one_in(3) ? 22 : 16, one_in(2) ? 16 : 2 * below(9));
+    return (size_t)(to - line);
+}
+
+/* A line by its form, all parts varied; now and then one part is so long that the line has 250 to 258 bytes. */
+static size_t put_log_line(uint8_t *line)
+{
+    uint8_t named[32];
+    const size_t rest = put_named_data(named);
+    uint32_t seconds = one_in(8) ? 1 + below(40) : OF(1, 2, 7, 10, 10, 10);
+    uint32_t blanks = one_in(4) ? 1 + below(6) : 1;
+    uint32_t interface = 1 + below(6);
+    if (one_in(10)) {
+        uint32_t *const parts[3] = {&seconds, &blanks, &interface};
+        *parts[below(3)] += 250 + below(9) - (9 + seconds + blanks + interface + (uint32_t)rest);
+    }
+    uint8_t *to = line;
+    *to++ = '(';
+    to = put_some(to, hexadecimal, 10, seconds);
+    *to++ = '.';
+    to = put_some(to, hexadecimal, 10, 6);
+    *to++ = ')';
+    memset(to, ' ', blanks);
+    to += blanks;
+    for (uint32_t i = 0; i < interface; i++) {
+        *to++ = (uint8_t)(one_in(3) ? OF(0x21, 0x7E, '#', '(', ')', '.', '0', 'A') : 0x21 + below(0x5E));
+    }
+    memcpy(to, named, rest);
+    return (size_t)(to - line) + rest;
+}
+
+/* One thing wrong with it; how many bytes it then has, at most as many more as another line and a byte. */
+static size_t damage_line(uint8_t *line, size_t length)
+{
+    const size_t place = length == 0 ? 0 : one_in(4) ? length - 1 : below((uint32_t)length);
+    const uint8_t byte = (uint8_t)(one_in(3)   ? any()
+                                   : one_in(2) ? OF('(', ')', '.', ' ', '#', '0', '9', 'A', 'f')
+                                               : OF('\r', '\n', '\t', 'R', 'T', 'g', 'G', '/', ':', '@', '`', 0x7F, 0, 0x80));
+    switch (length == 0 ? 7 : below(8)) {
+    case 0: /* a byte replaced */
+    case 1:
+        line[place] = byte;
+        return length;
+    case 2: /* removed */
+        memmove(line + place, line + place + 1, length - place - 1);
+        return length - 1;
+    case 3: /* inserted, or one twice */
+        memmove(line + place + 1, line + place, length - place);
+        line[place] = one_in(4) ? line[place] : byte;
+        return length + 1;
+    case 4: /* cut behind, or in front */
+        if (one_in(2)) {
+            return place;
+        }
+        memmove(line, line + place, length - place);
+        return length - place;
+    case 5: { /* two bytes exchanged */
+        const size_t other = one_in(2) ? below((uint32_t)length) : place > 0 ? place - 1 : 0;
+        const uint8_t was = line[place];
+        line[place] = line[other];
+        line[other] = was;
+        return length;
+    }
+    case 6: /* two lines joined */
+        if (length < LOG_LINE / 3) {
+            line[length] = (uint8_t)OF('\n', ' ', '\r');
+            length += one_in(2);
+            return length + put_log_line(line + length);
+        }
+        return length;
+    default: /* more behind */
+        put_some(line + length, " R", 2, 2);
+        line[length] = one_in(2) ? byte : line[length];
+        return length + 1 + below(2);
+    }
+}
+
+static void logs(unsigned long count)
+{
+    unsigned long frames = 0, bytes = 0, passed = 0, sound = 0, longest = 0;
+    begin("log_read");
+    while (cases < count) {
+        uint8_t line[LOG_LINE], copy[LOG_LINE], data[8 + CASTANHIU_DATA + 8], twin[8 + CASTANHIU_DATA + 8];
+        size_t length = put_log_line(line);
+        unsigned wrong = one_in(2) ? 0 : one_in(3) ? 1 + below(3) : 1;
+        const int damaged = wrong != 0;
+        for (; wrong > 0; wrong--) {
+            length = damage_line(line, length);
+        }
+        memcpy(copy, line, length);
+        fill(data, sizeof data);
+        memcpy(twin, data, sizeof twin);
+        const castanhiu_log_frame a = castanhiu_log_read(line, length, data + 8);
+        const model_log_frame m = model_log_read(copy, length, twin + 8);
+        SAME(a.refusal, m.refusal);
+        SAME(a.passed_over, m.passed_over);
+        SAME(a.length, m.length);
+        SAME(a.identifier, m.identifier);
+        SAME(a.stamp, m.stamp);
+        SAME_BYTES(data, twin, sizeof data);
+        SAME_BYTES(line, copy, length);
+        passed += m.passed_over;
+        frames += m.refusal == 0 && !m.passed_over;
+        bytes += m.length;
+        sound += damaged && m.refusal != 25;
+        longest += length == 255 || length == 256;
+        answered(m.refusal);
+    }
+    end();
+    printf("    of them %lu frames with %lu data bytes, and %lu passed over; %lu damaged, and of the form; %lu of 255 or 256 bytes\n",
+           frames, bytes, passed, sound, longest);
+
+    begin("log_write");
+    while (cases < count) {
+        uint8_t data[300], copy[300], line[8 + CASTANHIU_LOG_TEXT + 8], twin[8 + CASTANHIU_LOG_TEXT + 8];
+        const uint32_t number = one_in(4) ? any() & 0x1FFFFFFF : an_identifier();
+        const size_t length = one_in(10) ? OF(9, 10, 16, 64, 255, 256, 264, 300) : below(9);
+        const uint32_t stamp = one_in(3) ? OF(0, 1, 999, 1000, 9999, 10000, 99999, 100000, 999999, 1000000, 9999999, 10000000, 99999999,
+                                              100000000, 999999999, 1000000000, 4294966999, 4294967000, 4294967295)
+                                         : any() >> below(32);
+        fill(data, length);
+        memcpy(copy, data, length);
+        fill(line, sizeof line);
+        memcpy(twin, line, sizeof twin);
+        const castanhiu_log_line a = castanhiu_log_write(number, data, length, stamp, line + 8);
+        const model_log_line m = model_log_write(number, copy, length, stamp, (char *)twin + 8);
+        SAME(a.refusal, m.refusal);
+        SAME(a.length, m.length);
+        SAME_BYTES(line, twin, sizeof line);
+        SAME_BYTES(data, copy, length);
+        if (a.refusal == 0) {
+            uint8_t again[CASTANHIU_DATA];
+            const castanhiu_log_frame f = castanhiu_log_read(line + 8, a.length - 1u, again);
+            SAME(f.refusal, 0);
+            SAME(f.passed_over, 0);
+            SAME(f.length, length);
+            SAME(f.identifier, number);
+            SAME(f.stamp, stamp);
+            SAME_BYTES(again, data, length);
+        }
+        answered(m.refusal);
+    }
+    end();
+}
+
 int main(int argc, char **argv)
 {
     if (argc != 3) {
@@ -1048,6 +1223,7 @@ int main(int argc, char **argv)
     sheet(count);
     ranking(count);
     mending(count);
+    logs(count);
     printf("the archive and the model agree\n");
     return 0;
 }

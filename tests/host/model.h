@@ -1,15 +1,15 @@
 /*
  * An independent model of document 01, identifier, vehicle addresses, route, readings, receiver and
- * cutter, server, count sheet; and of document 02's ranking and mending.
+ * cutter, server, count sheet; and of document 02's ranking, mending and logs.
  *
- * Refusal numbers are document 01's, 0 for none. On a refusal every other field of a result is 0,
+ * Refusal numbers are the documents', 0 for none. On a refusal every other field of a result is 0,
  * save that refusal 11 of the receiver also says that overflow control is due and to whom.
  *
  * Every function is total in the values it is given. A pointer must lead to as many bytes as the
  * length beside it says (a length of 0 may go with a null pointer); pointers to a node, a record,
- * the sheet's text and what a mending writes are never null. Lent memory that one call may write
- * does not overlap with what it reads, nor with what else it may write. A flag is true when it is
- * not 0; in results it is 0 or 1.
+ * the sheet's text, what a mending writes and what a log's line is read or written into are never
+ * null. Lent memory that one call may write does not overlap with what it reads, nor with what else
+ * it may write. A flag is true when it is not 0; in results it is 0 or 1.
  */
 #ifndef MODEL_H
 #define MODEL_H
@@ -27,7 +27,9 @@ enum {
     MODEL_IDENTIFIERS_MAX = 16,   /* data identifiers in a record */
     MODEL_DATUM_MAX = 32,         /* bytes of one data identifier */
     MODEL_SHEET_INPUT_MAX = 65535,
-    MODEL_SHEET_TEXT = 88701      /* bytes of the count sheet's text buffer */
+    MODEL_SHEET_TEXT = 88701,     /* bytes of the count sheet's text buffer */
+    MODEL_LOG_LINE_MAX = 255,     /* longest line of a log, without its newline */
+    MODEL_LOG_TEXT = 48           /* bytes of the text buffer of one line */
 };
 
 /* ---- identifier ---------------------------------------------------------------------------- */
@@ -242,5 +244,33 @@ typedef struct {
  * MODEL_SHEET_TEXT bytes: 21, and both as found. No byte past either is written.
  */
 model_mended model_mend(const uint8_t *input, size_t length, uint8_t *kept, char *list);
+
+/* ---- logs ---------------------------------------------------------------------------------- */
+
+typedef struct {
+    uint32_t identifier;
+    uint32_t stamp;
+    uint8_t refusal;
+    uint8_t passed_over;
+    uint8_t length; /* data bytes */
+} model_log_frame;
+
+typedef struct {
+    uint8_t refusal;
+    uint8_t length; /* bytes of the line, its newline included */
+} model_log_line;
+
+/*
+ * Reads one line of a log, without its newline: 25, then 2. Of the eight bytes of data those past the
+ * length stay, and all where the line is refused or passed over.
+ */
+model_log_frame model_log_read(const uint8_t *line, size_t length, uint8_t *data);
+
+/*
+ * Writes the line of a frame, and its newline, into a text buffer of MODEL_LOG_TEXT bytes: 2, 3. No
+ * byte past the line is written.
+ */
+model_log_line model_log_write(uint32_t number, const uint8_t *data, size_t data_length,
+                               uint32_t stamp, char *text);
 
 #endif

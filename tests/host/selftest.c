@@ -2494,6 +2494,714 @@ static void test_mending_random(void)
     free(scratch);
 }
 
+/* ---- logs ---------------------------------------------------------------------------------- */
+
+/* Whether all of a block is as it was filled, but for `count` bytes behind the first eight. */
+static int rest_is(const uint8_t *block, size_t size, size_t count, uint8_t filling)
+{
+    int same = 1;
+    for (size_t i = 0; i < size; i++) {
+        same &= (i >= 8 && i < 8 + count) || block[i] == filling;
+    }
+    return same;
+}
+
+static const uint8_t fillings[2] = {0x5A, 0xA5};
+
+/* What a line gives, read twice, over two fillings: a byte of the data that is not told stays, and so do those around it. */
+static model_log_frame line_read(const void *line, size_t length, uint8_t *data)
+{
+    uint8_t *const own = lent(line, length);
+    model_log_frame first = {0};
+    for (int turn = 0; turn < 2; turn++) {
+        uint8_t block[8 + 8 + 8];
+        memset(block, fillings[turn], sizeof block);
+        const model_log_frame f = model_log_read(own, length, block + 8);
+        CHECK(f.length <= 8 && rest_is(block, sizeof block, f.length, fillings[turn]));
+        CHECK(turn == 0 || (f.refusal == first.refusal && f.passed_over == first.passed_over && f.length == first.length &&
+                            f.identifier == first.identifier && f.stamp == first.stamp && memcmp(data, block + 8, f.length) == 0));
+        memcpy(data, block + 8, f.length);
+        first = f;
+    }
+    CHECK(memcmp(own, line, length) == 0);
+    free(own);
+    return first;
+}
+
+static int is_answer(model_log_frame f, uint8_t refusal, uint8_t passed_over)
+{
+    return f.refusal == refusal && f.passed_over == passed_over && f.length == 0 && f.identifier == 0 && f.stamp == 0;
+}
+
+/* "A refusal returns its number": every other number is 0, and no byte is told. */
+static int line_refused(const void *line, size_t length, uint8_t refusal)
+{
+    uint8_t data[8];
+    return is_answer(line_read(line, length, data), refusal, 0);
+}
+
+static int line_passed_over(const void *line, size_t length)
+{
+    uint8_t data[8];
+    return is_answer(line_read(line, length, data), 0, 1);
+}
+
+static int line_is(const void *line, size_t length, uint32_t number, uint32_t stamp, const void *bytes, size_t count)
+{
+    uint8_t data[8];
+    const model_log_frame f = line_read(line, length, data);
+    return f.refusal == 0 && f.passed_over == 0 && f.identifier == number && f.stamp == stamp && f.length == count &&
+           memcmp(data, bytes, count) == 0;
+}
+
+#define MALFORMED(text) CHECK(line_refused(text, strlen(text), 25))
+#define TOO_LARGE(text) CHECK(line_refused(text, strlen(text), 2))
+#define PASSED_OVER(text) CHECK(line_passed_over(text, strlen(text)))
+#define FRAME(text, number, stamp, bytes) CHECK(line_is(text, strlen(text), number, stamp, bytes, sizeof(bytes) - 1))
+
+static void test_log_worked(void)
+{
+    FRAME("(12.003000) can0 18CEC9EB#05023E00", 0x18CEC9EB, 12003, "\x05\x02\x3E\x00");
+    FRAME("(0.000000) c 00000000#", 0, 0, "");
+    FRAME("(1436509052.249713) vcan0 1FFFFFFF#FFEEDDCCBBAA9988", 0x1FFFFFFF, 1989975385, "\xFF\xEE\xDD\xCC\xBB\xAA\x99\x88");
+
+    /* "whole milliseconds rounded down, modulo 2^32" */
+    FRAME("(0.000999) can0 18CEC9EB#", 0x18CEC9EB, 0, "");
+    FRAME("(0.001000) can0 18CEC9EB#", 0x18CEC9EB, 1, "");
+    FRAME("(0.001999) can0 18CEC9EB#", 0x18CEC9EB, 1, "");
+    FRAME("(0.999999) can0 18CEC9EB#", 0x18CEC9EB, 999, "");
+    FRAME("(1.000000) can0 18CEC9EB#", 0x18CEC9EB, 1000, "");
+    FRAME("(4294967.295000) can0 18CEC9EB#", 0x18CEC9EB, 4294967295u, "");
+    FRAME("(4294967.295999) can0 18CEC9EB#", 0x18CEC9EB, 4294967295u, "");
+    FRAME("(4294967.296000) can0 18CEC9EB#", 0x18CEC9EB, 0, "");
+    FRAME("(4294967.297001) can0 18CEC9EB#", 0x18CEC9EB, 1, "");
+    FRAME("(4294967295.999999) can0 18CEC9EB#", 0x18CEC9EB, 4294967295u, "");
+    FRAME("(4294967296.000000) can0 18CEC9EB#", 0x18CEC9EB, 0, "");
+    FRAME("(4294967296.000001) can0 18CEC9EB#", 0x18CEC9EB, 0, "");
+    FRAME("(18446744073709551616.001000) can0 18CEC9EB#", 0x18CEC9EB, 1, "");
+    FRAME("(100000000000000000000000000000.000000) can0 18CEC9EB#", 0x18CEC9EB, 0, "");
+    FRAME("(123456789012345678901234567890.123456) can0 18CEC9EB#", 0x18CEC9EB, 2789360843u, "");
+    FRAME("(000000000000000000000000000012.003000) can0 18CEC9EB#", 0x18CEC9EB, 12003, "");
+
+    /* one or more blanks before the interface; any byte 21 to 7E in it, those that stand elsewhere in a line too */
+    FRAME("(12.003000)  can0 18CEC9EB#05", 0x18CEC9EB, 12003, "\x05");
+    FRAME("(12.003000)       can0 18CEC9EB#05", 0x18CEC9EB, 12003, "\x05");
+    FRAME("(12.003000) ! 18CEC9EB#05", 0x18CEC9EB, 12003, "\x05");
+    FRAME("(12.003000) ~ 18CEC9EB#05", 0x18CEC9EB, 12003, "\x05");
+    FRAME("(12.003000) # 18CEC9EB#05", 0x18CEC9EB, 12003, "\x05");
+    FRAME("(12.003000) 123#11 18CEC9EB#05", 0x18CEC9EB, 12003, "\x05");
+    FRAME("(12.003000) (12.003000) 18CEC9EB#05", 0x18CEC9EB, 12003, "\x05");
+    PASSED_OVER("(12.003000) 18CEC9EB#05 123#11");
+
+    /* capital or small */
+    FRAME("(12.003000) can0 18cec9eb#05023e00", 0x18CEC9EB, 12003, "\x05\x02\x3E\x00");
+    FRAME("(12.003000) can0 18CeC9eB#aBcDeFAf", 0x18CEC9EB, 12003, "\xAB\xCD\xEF\xAF");
+
+    /* R set, other groups: as they are */
+    FRAME("(12.003000) can0 1ACEC9EB#", 0x1ACEC9EB, 12003, "");
+    FRAME("(12.003000) can0 00000001#", 1, 12003, "");
+
+    /* "Lines with three-digit identifiers are counted and passed over", whatever the digits */
+    PASSED_OVER("(12.003000) can0 123#11");
+    PASSED_OVER("(12.003000) can0 000#");
+    PASSED_OVER("(12.003000) can0 7FF#");
+    PASSED_OVER("(12.003000) can0 FFF#");
+    PASSED_OVER("(12.003000) can0 fFa#0011223344556677");
+
+    /* "then 2 for an identifier too large" */
+    FRAME("(12.003000) can0 1FFFFFFF#", 0x1FFFFFFF, 12003, "");
+    TOO_LARGE("(12.003000) can0 20000000#");
+    TOO_LARGE("(12.003000) can0 20000000#1122334455667788");
+    TOO_LARGE("(12.003000) can0 2000000f#");
+    TOO_LARGE("(12.003000) can0 80000000#");
+    TOO_LARGE("(12.003000) can0 98CEC9EB#05023E00");
+    TOO_LARGE("(12.003000) can0 FFFFFFFF#00");
+    TOO_LARGE("(12.003000) can0 ffffffff#00");
+    MALFORMED("(12.003000) can0 20000000#0");
+    MALFORMED("(12.003000) can0 20000000#112233445566778899");
+    MALFORMED("(12.003000) can0 FFFFFFFF#0G");
+    MALFORMED("(12.003000) can0 FFFFFFFF# ");
+    MALFORMED("(12.003000) can0 FFFFFFFF#R");
+}
+
+/* Each way to be malformed that the sentences name, and its neighbours. */
+static void test_log_malformed(void)
+{
+    static const char *const malformed[] = {
+        "",
+        " ",
+        "\r",
+        "\n",
+        "(",
+        "#",
+        "18CEC9EB#05023E00",
+        "can0 18CEC9EB#05023E00",
+        /* a byte before or behind */
+        " (12.003000) can0 18CEC9EB#05023E00",
+        "((12.003000) can0 18CEC9EB#05023E00",
+        "(12.003000) can0 18CEC9EB#05023E00\r",
+        "(12.003000) can0 18CEC9EB#05023E00\n",
+        "(12.003000) can0 18CEC9EB#05023E00 ",
+        "(12.003000) can0 18CEC9EB#05023E00 R",
+        "(12.003000) can0 18CEC9EB#05023E00 T",
+        "(12.003000) can0 18CEC9EB#05023E00R",
+        "(12.003000) can0 123#11\r",
+        "(12.003000) can0 123#11 R",
+        "(12.003000) can0 18CEC9EB#\r",
+        "(12.003000) can0 18CEC9EB# R",
+        /* remote frames, CAN FD, another mark */
+        "(12.003000) can0 18CEC9EB#R",
+        "(12.003000) can0 18CEC9EB#R8",
+        "(12.003000) can0 123#R",
+        "(12.003000) can0 18CEC9EB##0",
+        "(12.003000) can0 18CEC9EB##105023E00",
+        "(12.003000) can0 123##111",
+        "(12.003000) can0 18CEC9EB#05023E00#",
+        "(12.003000) can0 18CEC9EB05023E00",
+        "(12.003000) can0 18CEC9EB",
+        "(12.003000) can0 123",
+        "(12.003000) can0 18CEC9EB 05023E00",
+        "(12.003000) can0 18CEC9EB #05023E00",
+        "(12.003000) can0 18CEC9EB# 05023E00",
+        "(12.003000) can0 18CEC9EB#05 02 3E 00",
+        "(12.003000) can0 18CEC9EB#05.02.3E.00",
+        "(12.003000) can0 #05023E00",
+        "(12.003000) can0 123#ABCD#",
+        "(12.003000) can0 123#ABCD#00",
+        "(12.003000) can0 18CE#9EB#00",
+        "(12.003000) can0 18C#C9EB#00",
+        /* seconds and microseconds */
+        "(.003000) can0 18CEC9EB#05023E00",
+        "(12.) can0 18CEC9EB#05023E00",
+        "(12) can0 18CEC9EB#05023E00",
+        "() can0 18CEC9EB#05023E00",
+        "(12.00300) can0 18CEC9EB#05023E00",
+        "(12.0030000) can0 18CEC9EB#05023E00",
+        "(12.003) can0 18CEC9EB#05023E00",
+        "(12.003000000) can0 18CEC9EB#05023E00",
+        "(12,003000) can0 18CEC9EB#05023E00",
+        "(12..003000) can0 18CEC9EB#05023E00",
+        "(1.2.003000) can0 18CEC9EB#05023E00",
+        "(+12.003000) can0 18CEC9EB#05023E00",
+        "(-12.003000) can0 18CEC9EB#05023E00",
+        "( 12.003000) can0 18CEC9EB#05023E00",
+        "(1 2.003000) can0 18CEC9EB#05023E00",
+        "(12 .003000) can0 18CEC9EB#05023E00",
+        "(12. 03000) can0 18CEC9EB#05023E00",
+        "(12.-03000) can0 18CEC9EB#05023E00",
+        "(12.0030 0) can0 18CEC9EB#05023E00",
+        "(12.003000 ) can0 18CEC9EB#05023E00",
+        "(1A.003000) can0 18CEC9EB#05023E00",
+        "(12.00300A) can0 18CEC9EB#05023E00",
+        "12.003000 can0 18CEC9EB#05023E00",
+        "12.003000) can0 18CEC9EB#05023E00",
+        "(12.003000 can0 18CEC9EB#05023E00",
+        "[12.003000] can0 18CEC9EB#05023E00",
+        "(12.003000)) can0 18CEC9EB#05023E00",
+        "(2026-02-10 12:00:03.003000) can0 18CEC9EB#05023E00",
+        /* blanks and the interface */
+        "(12.003000)can0 18CEC9EB#05023E00",
+        "(12.003000) can018CEC9EB#05023E00",
+        "(12.003000)can018CEC9EB#05023E00",
+        "(12.003000) can0  18CEC9EB#05023E00",
+        "(12.003000) can0   18CEC9EB#05023E00",
+        "(12.003000) 18CEC9EB#05023E00",
+        "(12.003000)  18CEC9EB#05023E00",
+        "(12.003000) can0 can1 18CEC9EB#05023E00",
+        "(12.003000)\tcan0 18CEC9EB#05023E00",
+        "(12.003000) \tcan0 18CEC9EB#05023E00",
+        "(12.003000) can0\t18CEC9EB#05023E00",
+        "(12.003000) can0 \t18CEC9EB#05023E00",
+        "(12.003000) can\t0 18CEC9EB#05023E00",
+        "(12.003000) can\x7F 18CEC9EB#05023E00",
+        "(12.003000) can\x80 18CEC9EB#05023E00",
+        "(12.003000) can\xC3\xA9 18CEC9EB#05023E00",
+        "(12.003000) can0",
+        "(12.003000) can0 ",
+        "(12.003000) ",
+        "(12.003000)",
+        /* what is no hexadecimal digit */
+        "(12.003000) can0 G8CEC9EB#05023E00",
+        "(12.003000) can0 18CEC9EG#05023E00",
+        "(12.003000) can0 0x18CEC9EB#05023E00",
+        "(12.003000) can0 0x18CEC9#05023E00",
+        "(12.003000) can0 -8CEC9EB#05023E00",
+        "(12.003000) can0 12G#11",
+        "(12.003000) can0 123#1G",
+        "(12.003000) can0 123#g1",
+        "(12.003000) can0 18CEC9EB#0502:E00",
+        "(12.003000) can0 18CEC9EB#0502@E00",
+        "(12.003000) can0 18CEC9EB#0502`E00",
+        "(12.003000) can0 18CEC9EB#0502/E00",
+        "(12.003000) can0 18CEC9EB#05023E0x",
+        /* two lines */
+        "(12.003000) can0 18CEC9EB#05023E00\n(12.004000) can0 18CEC9EB#05023E00",
+        "(12.003000) can0 18CEC9EB#05023E00(12.004000) can0 18CEC9EB#05023E00",
+        "(12.003000) can0 18CEC9EB#05023E00 (12.004000) can0 18CEC9EB#05023E00",
+    };
+    for (size_t i = 0; i < sizeof malformed / sizeof malformed[0]; i++) {
+        MALFORMED(malformed[i]);
+    }
+    /* a zero byte is a byte like others, and ends nothing */
+    CHECK(line_refused("(12.003000) can0 18CEC9EB#0502\0", 31, 25));
+    CHECK(line_refused("(12.003000) can0 18CEC9EB#0502\0\0", 32, 25));
+    CHECK(line_refused("(12.003000) can0 18CEC9EB\0#0502", 31, 25));
+    CHECK(line_refused("(12.003000)\0can0 18CEC9EB#0502", 30, 25));
+    CHECK(line_refused("(12.003000) c\0n0 18CEC9EB#0502", 30, 25));
+    CHECK(line_refused("\0(12.003000) can0 18CEC9EB#0502", 31, 25));
+
+    uint8_t data[8];
+    CHECK(is_answer(model_log_read(NULL, 0, data), 25, 0));
+    CHECK(is_answer(model_log_read(NULL, SIZE_MAX, data), 25, 0));
+}
+
+/* Every number of digits of the seconds, of the microseconds, of the name and of the data; every number of blanks. */
+static void test_log_counts(void)
+{
+    static const char digits[] = "12345678901234567890123456789012345678";
+    char line[128];
+    const uint8_t bytes[8] = {0x12, 0x34, 0x56, 0x78, 0x90, 0x12, 0x34, 0x56};
+    for (int count = 0; count <= 36; count++) {
+        /* more than 8 data bytes, or half a byte */
+        const int sound = count % 2 == 0 && count <= 16;
+        size_t n = (size_t)sprintf(line, "(12.003000) can0 18CEC9EB#%.*s", count, digits);
+        CHECK(sound ? line_is(line, n, 0x18CEC9EB, 12003, bytes, (size_t)count / 2) : line_refused(line, n, 25));
+        n = (size_t)sprintf(line, "(12.003000) can0 123#%.*s", count, digits);
+        CHECK(sound ? line_passed_over(line, n) : line_refused(line, n, 25));
+        n = (size_t)sprintf(line, "(12.003000) can0 20000000#%.*s", count, digits);
+        CHECK(line_refused(line, n, sound ? 2 : 25));
+
+        n = (size_t)sprintf(line, "(12.003000) can0 %.*s#1234", count, digits);
+        CHECK(count == 8   ? line_is(line, n, 0x12345678, 12003, bytes, 2)
+              : count == 3 ? line_passed_over(line, n)
+                           : line_refused(line, n, 25));
+        n = (size_t)sprintf(line, "(12.%.*s) can0 18CEC9EB#1234", count, digits);
+        CHECK(count == 6 ? line_is(line, n, 0x18CEC9EB, 12123, bytes, 2) : line_refused(line, n, 25));
+
+        n = (size_t)sprintf(line, "(12.003000)%*scan0 18CEC9EB#1234", count, "");
+        CHECK(count > 0 ? line_is(line, n, 0x18CEC9EB, 12003, bytes, 2) : line_refused(line, n, 25));
+        n = (size_t)sprintf(line, "(12.003000) can0%*s18CEC9EB#1234", count, "");
+        CHECK(count == 1 ? line_is(line, n, 0x18CEC9EB, 12003, bytes, 2) : line_refused(line, n, 25));
+        n = (size_t)sprintf(line, "(12.003000) %.*s 18CEC9EB#1234", count, digits);
+        CHECK(count > 0 ? line_is(line, n, 0x18CEC9EB, 12003, bytes, 2) : line_refused(line, n, 25));
+        n = (size_t)sprintf(line, "(%.*s.003000) can0 123#1234", count, digits);
+        CHECK(count > 0 ? line_passed_over(line, n) : line_refused(line, n, 25));
+    }
+}
+
+static const char hexadecimal[] = "0123456789ABCDEFabcdef";
+
+/*
+ * What a place of a line takes, by its mark: d a decimal digit; v a byte 21 to 7E; b that or a blank, where it may as well be the last
+ * of the blanks before the interface; x a hexadecimal digit; t the same, of which 2 and more make the identifier too large; any other
+ * mark that byte alone. The value is that of a hexadecimal digit, 16 for any other byte.
+ */
+static int takes(char mark, unsigned byte, unsigned *value)
+{
+    *value = 16;
+    for (unsigned i = 0; i < 22; i++) {
+        if (byte == (unsigned char)hexadecimal[i]) {
+            *value = i < 16 ? i : i - 6;
+        }
+    }
+    switch (mark) {
+    case 'd':
+        return byte >= '0' && byte <= '9';
+    case 'v':
+        return byte >= 0x21 && byte <= 0x7E;
+    case 'b':
+        return byte >= 0x20 && byte <= 0x7E;
+    case 'x':
+    case 't':
+        return *value < 16;
+    default:
+        return byte == (unsigned char)mark;
+    }
+}
+
+/* A sound line with each byte at each of its places. */
+static void check_places(const char *sound, const char *marks)
+{
+    const size_t length = strlen(sound);
+    CHECK(length == strlen(marks) && length < 64);
+    char line[64];
+    for (size_t place = 0; place < length; place++) {
+        for (unsigned byte = 0; byte < 256; byte++) {
+            memcpy(line, sound, length);
+            line[place] = (char)byte;
+            unsigned value, nibbles[24];
+            if (!takes(marks[place], byte, &value)) {
+                CHECK(line_refused(line, length, 25));
+                continue;
+            }
+            /* the digits, one after the other: those of the time, then those of the name and of the data */
+            uint64_t time = 0;
+            uint32_t number = 0;
+            size_t count = 0, name = 0;
+            for (size_t i = 0; i < length; i++) {
+                CHECK(takes(marks[i], (unsigned char)line[i], &value));
+                if (marks[i] == 'd') {
+                    time = 10 * time + value;
+                } else if (marks[i] == 'x' || marks[i] == 't') {
+                    nibbles[count++] = value;
+                } else if (marks[i] == '#') {
+                    name = count;
+                }
+            }
+            for (size_t i = 0; i < name; i++) {
+                number = 16 * number + nibbles[i];
+            }
+            uint8_t bytes[8];
+            for (size_t i = name; i < count; i += 2) {
+                bytes[(i - name) / 2] = (uint8_t)(16 * nibbles[i] + nibbles[i + 1]);
+            }
+            CHECK(name == 3         ? line_passed_over(line, length)
+                  : nibbles[0] >= 2 ? line_refused(line, length, 2)
+                                    : line_is(line, length, number, (uint32_t)(time / 1000), bytes, (count - name) / 2));
+        }
+    }
+}
+
+static void test_log_bytes(void)
+{
+    check_places("(12.003000) can0 18CEC9EB#05023E00",
+                 "(dd.dddddd) bvvv txxxxxxx#xxxxxxxx");
+    check_places("(7.999999)   can0 1fffffff#ffeeddccbbaa9988",
+                 "(d.dddddd)  bbvvv txxxxxxx#xxxxxxxxxxxxxxxx");
+    check_places("(1436509.249713) c 00000000#",
+                 "(ddddddd.dddddd) v txxxxxxx#");
+    check_places("(0.000000) vcan12 7fF#0a",
+                 "(d.dddddd) bvvvvv xxx#xx");
+    check_places("(12.345678) c 123#",
+                 "(dd.dddddd) v xxx#");
+    check_places("(12.345678) can0 20000000#01",
+                 "(dd.dddddd) bvvv txxxxxxx#xx");
+}
+
+/* At most 255 bytes, whichever part is long. */
+static void test_log_longest(void)
+{
+    static const char *const fronts[3] = {"(", "(12.003000) ", "(12.003000)"};
+    static const char *const backs[3] = {"12.003000) can0 ", " ", "can0 "};
+    static const char *const names[3] = {"18CEC9EB#0502", "20000000#0502", "123#0502"};
+    static const char between[3] = {'0', 'x', ' '};
+    char line[600];
+    for (int part = 0; part < 3; part++) {
+        for (int name = 0; name < 3; name++) {
+            const size_t front = strlen(fronts[part]), back = strlen(backs[part]), end = strlen(names[name]);
+            for (size_t length = front + 1 + back + end; length < sizeof line; length++) {
+                memset(line, between[part], sizeof line);
+                memcpy(line, fronts[part], front);
+                memcpy(line + length - end - back, backs[part], back);
+                memcpy(line + length - end, names[name], end);
+                CHECK(length > 255 ? line_refused(line, length, 25)
+                      : name == 0  ? line_is(line, length, 0x18CEC9EB, 12003, "\x05\x02", 2)
+                      : name == 1  ? line_refused(line, length, 2)
+                                   : line_passed_over(line, length));
+            }
+        }
+    }
+    /* a sound line with 256 bytes behind it, or 65,536: in its low bytes the length is that of the sound one */
+    char *const longer = calloc(65536 + 34, 1);
+    if (longer == NULL) {
+        abort();
+    }
+    memcpy(longer, "(12.003000) can0 18CEC9EB#05023E00", 34);
+    CHECK(line_is(longer, 34, 0x18CEC9EB, 12003, "\x05\x02\x3E\x00", 4));
+    CHECK(line_refused(longer, 256 + 34, 25) && line_refused(longer, 65536 + 34, 25));
+    free(longer);
+}
+
+/* The form of a line, part by part: what its bytes are, and how many, from the least to the most by steps. */
+enum { SECONDS = 1, POINT = 2, MICROSECONDS = 3, NAME = 8, DATA = 10, PARTS = 11 };
+static const struct {
+    char mark;
+    size_t least, most, step;
+} form[PARTS] = {
+    {'(', 1, 1, 1}, {'d', 1, 255, 1}, {'.', 1, 1, 1}, {'d', 6, 6, 1}, {')', 1, 1, 1}, {' ', 1, 255, 1},
+    {'v', 1, 255, 1}, {' ', 1, 1, 1}, {'x', 3, 8, 5}, {'#', 1, 1, 1}, {'x', 0, 16, 2},
+};
+
+/* Whether the bytes from a place on can be parted so, each part with any count that it may have; and where the parts then begin. */
+static int has_form(const uint8_t *line, size_t length, unsigned part, size_t at, size_t *begins)
+{
+    begins[part] = at;
+    if (part == PARTS) {
+        return at == length;
+    }
+    for (size_t count = 0;; count++) {
+        unsigned value;
+        if (count >= form[part].least && (count - form[part].least) % form[part].step == 0 &&
+            has_form(line, length, part + 1, at + count, begins)) {
+            return 1;
+        }
+        if (count == form[part].most || at + count == length || !takes(form[part].mark, line[at + count], &value)) {
+            return 0;
+        }
+    }
+}
+
+/* The number that the digits write, in bytes from the lowest on, one for two digits: the first four are what it is modulo 2^32. */
+static uint32_t modulo_2_32(const uint8_t *digits, size_t count)
+{
+    uint8_t number[4 + 258 / 2] = {0};
+    for (size_t k = 0; k < count; k++) {
+        unsigned carry = digits[k] - '0';
+        for (size_t i = 0; i < 4 + count / 2; i++) {
+            carry += 10u * number[i];
+            number[i] = (uint8_t)carry;
+            carry >>= 8;
+        }
+        CHECK(carry == 0);
+    }
+    return (uint32_t)number[3] << 24 | (uint32_t)number[2] << 16 | (uint32_t)number[1] << 8 | number[0];
+}
+
+/* One line by the form: 0 a frame, 1 passed over, 2 an identifier too large, 3 malformed. */
+static int check_line(const uint8_t *line, size_t length)
+{
+    size_t begins[PARTS + 1];
+    if (length > 255 || !has_form(line, length, 0, 0, begins)) {
+        CHECK(line_refused(line, length, 25));
+        return 3;
+    }
+    if (begins[NAME + 1] - begins[NAME] == 3) {
+        CHECK(line_passed_over(line, length));
+        return 1;
+    }
+    char name[9] = "";
+    memcpy(name, line + begins[NAME], 8);
+    const unsigned long number = strtoul(name, NULL, 16);
+    if (number > 0x1FFFFFFFul) {
+        CHECK(line_refused(line, length, 2));
+        return 2;
+    }
+    /* seconds times 1000 plus the milliseconds: their digits behind the seconds' */
+    uint8_t digits[258], bytes[8];
+    const size_t seconds = begins[POINT] - begins[SECONDS], count = (length - begins[DATA]) / 2;
+    memcpy(digits, line + begins[SECONDS], seconds);
+    memcpy(digits + seconds, line + begins[MICROSECONDS], 3);
+    for (size_t i = 0; i < count; i++) {
+        char pair[3] = "";
+        memcpy(pair, line + begins[DATA] + 2 * i, 2);
+        bytes[i] = (uint8_t)strtoul(pair, NULL, 16);
+    }
+    CHECK(line_is(line, length, (uint32_t)number, modulo_2_32(digits, seconds + 3), bytes, count));
+    return 0;
+}
+
+/* A sound line cut at each place, before it and behind; without each of its bytes; with each byte more, at each place. */
+static void check_edits(const char *sound)
+{
+    const size_t length = strlen(sound);
+    uint8_t line[64];
+    for (size_t place = 0; place <= length; place++) {
+        memcpy(line, sound, length);
+        check_line(line, place);
+        check_line(line + place, length - place);
+        if (place < length) {
+            memcpy(line + place, sound + place + 1, length - place - 1);
+            check_line(line, length - 1);
+        }
+        memcpy(line, sound, place);
+        memcpy(line + place + 1, sound + place, length - place);
+        for (unsigned byte = 0; byte < 256; byte++) {
+            line[place] = (uint8_t)byte;
+            check_line(line, length + 1);
+        }
+    }
+}
+
+static void test_log_edits(void)
+{
+    check_edits("(12.003000) can0 18CEC9EB#05023E00");
+    check_edits("(12.003000) can0 18CEC9EB#");
+    check_edits("(12.003000)  can0 1fffffff#05023e00aabbccdd");
+    check_edits("(1436509052.249713) c 123#");
+    check_edits("(0.000000) c 20000000#0a");
+}
+
+static uint8_t *put_digits(uint8_t *to, const char *digits, uint32_t of, uint32_t count)
+{
+    for (uint32_t i = 0; i < count; i++) {
+        *to++ = (uint8_t)digits[below(of)];
+    }
+    return to;
+}
+
+/* A line by the form, of up to 258 bytes. */
+static size_t put_log_line(uint8_t *line)
+{
+    static const char *const names[] = {"1FFFFFFF", "20000000", "1fffffff", "18CEC9EB", "00000000", "2000000A", "FFFFFFFF"};
+    uint8_t *to = line;
+    *to++ = '(';
+    to = put_digits(to, hexadecimal, 10, 1 + below(below(8) ? 11 : 60));
+    *to++ = '.';
+    to = put_digits(to, hexadecimal, 10, 6);
+    *to++ = ')';
+    to = put_digits(to, " ", 1, 1 + (below(3) ? 0 : below(8) ? below(4) : below(40)));
+    const uint32_t before = (uint32_t)(to - line);
+    for (uint32_t i = below(16) ? 1 + below(6) : 224 + below(9) - before; i > 0; i--) {
+        *to++ = (uint8_t)(0x21 + below(0x5E));
+    }
+    *to++ = ' ';
+    if (below(4) == 0) {
+        to = put_digits(to, hexadecimal, 22, 3);
+    } else if (below(3) == 0) {
+        memcpy(to, names[below(7)], 8);
+        to += 8;
+    } else {
+        *to++ = (uint8_t)hexadecimal[below(8) ? below(2) : below(22)];
+        to = put_digits(to, hexadecimal, 22, 7);
+    }
+    *to++ = '#';
+    to = put_digits(to, hexadecimal, 22, below(2) ? 16 : 2 * below(9));
+    return (size_t)(to - line);
+}
+
+/* One byte replaced, dropped or too many, or the line cut; how many bytes it then has. */
+static size_t damaged_line(uint8_t *line, size_t length)
+{
+    static const char marks[] = "()., #0129aAfFgGRT\r\n\t";
+    if (length == 0) {
+        return 0;
+    }
+    const size_t place = below(4) ? below((uint32_t)length) : length - 1;
+    const uint8_t byte = below(3) ? (uint8_t)marks[below(sizeof marks - 1)] : (uint8_t)any();
+    switch (below(5)) {
+    case 0:
+        line[place] = byte;
+        return length;
+    case 1:
+        memmove(line + place, line + place + 1, length - place - 1);
+        return length - 1;
+    case 2:
+        memmove(line + place + 1, line + place, length - place);
+        line[place + below(2)] = byte;
+        return length + 1;
+    case 3:
+        return place;
+    default: /* a byte behind */
+        line[length] = byte;
+        return length + 1;
+    }
+}
+
+static void test_log_random(void)
+{
+    unsigned long kinds[4] = {0}, longest = 0;
+    for (int i = 0; i < 100000; i++) {
+        uint8_t line[300];
+        size_t length = put_log_line(line);
+        CHECK(length > 255 || check_line(line, length) < 3);
+        longest += length == 255 || length == 256;
+        for (uint32_t times = below(3); times > 0; times--) {
+            length = damaged_line(line, length);
+        }
+        kinds[check_line(line, length)]++;
+    }
+    for (int k = 0; k < 4; k++) {
+        CHECK(kinds[k] > 500);
+    }
+    CHECK(longest > 500);
+}
+
+/* A line written, twice, over two fillings: what is not the line's stays. */
+static model_log_line line_written(uint32_t number, const void *data, size_t count, uint32_t stamp, char *line)
+{
+    uint8_t *const own = lent(data, count);
+    model_log_line first = {0};
+    for (int turn = 0; turn < 2; turn++) {
+        uint8_t block[8 + MODEL_LOG_TEXT + 8];
+        memset(block, fillings[turn], sizeof block);
+        const model_log_line l = model_log_write(number, own, count, stamp, (char *)block + 8);
+        CHECK(l.length <= MODEL_LOG_TEXT && rest_is(block, sizeof block, l.length, fillings[turn]));
+        CHECK(turn == 0 || (l.refusal == first.refusal && l.length == first.length && memcmp(line, block + 8, l.length) == 0));
+        memcpy(line, block + 8, l.length);
+        first = l;
+    }
+    CHECK(memcmp(own, data, count) == 0);
+    free(own);
+    return first;
+}
+
+/* It is this line, and without its newline it reads as the same frame. */
+static int writes_line(uint32_t number, const void *data, size_t count, uint32_t stamp, const char *expected)
+{
+    char line[MODEL_LOG_TEXT];
+    const model_log_line l = line_written(number, data, count, stamp, line);
+    return l.refusal == 0 && l.length == strlen(expected) && memcmp(line, expected, l.length) == 0 && line[l.length - 1] == '\n' &&
+           line_is(line, l.length - 1u, number, stamp, data, count);
+}
+
+/* The line as the C library prints it. */
+static int writes_frame(uint32_t number, const uint8_t *data, size_t count, uint32_t stamp)
+{
+    char expected[64];
+    int at = sprintf(expected, "(%u.%03u000) can0 %08X#", (unsigned)(stamp / 1000), (unsigned)(stamp % 1000), (unsigned)number);
+    for (size_t i = 0; i < count; i++) {
+        at += sprintf(expected + at, "%02X", data[i]);
+    }
+    sprintf(expected + at, "\n");
+    return writes_line(number, data, count, stamp, expected);
+}
+
+static void test_log_written(void)
+{
+    static const uint8_t bytes[16] = {0x05, 0x02, 0x3E, 0x00, 0xFF, 0xAB, 0xCD, 0xEF};
+    CHECK(writes_line(0x18CEC9EB, bytes, 4, 12003, "(12.003000) can0 18CEC9EB#05023E00\n"));
+    CHECK(writes_line(0x18CEC9EB, bytes, 8, 12003, "(12.003000) can0 18CEC9EB#05023E00FFABCDEF\n"));
+    CHECK(writes_line(0, bytes, 0, 0, "(0.000000) can0 00000000#\n"));
+    CHECK(writes_line(0x18CEC9EB, bytes, 0, 1, "(0.001000) can0 18CEC9EB#\n"));
+    CHECK(writes_line(0x18CEC9EB, bytes, 0, 10, "(0.010000) can0 18CEC9EB#\n"));
+    CHECK(writes_line(0x18CEC9EB, bytes, 0, 999, "(0.999000) can0 18CEC9EB#\n"));
+    CHECK(writes_line(0x18CEC9EB, bytes, 0, 1000, "(1.000000) can0 18CEC9EB#\n"));
+    CHECK(writes_line(0x18CEC9EB, bytes, 1, 10000, "(10.000000) can0 18CEC9EB#05\n"));
+    CHECK(writes_line(0x18CEC9EB, bytes, 1, 4294967294u, "(4294967.294000) can0 18CEC9EB#05\n"));
+    CHECK(writes_line(0x1FFFFFFF, bytes, 8, 4294967295u, "(4294967.295000) can0 1FFFFFFF#05023E00FFABCDEF\n"));
+    CHECK(writes_line(0x1ABCDEF0, bytes, 2, 999999, "(999.999000) can0 1ABCDEF0#0502\n"));
+
+    /* "export refuses by 2 and 3" */
+    const struct {
+        uint32_t number;
+        size_t count;
+        uint8_t refusal;
+    } refused[] = {
+        {0x20000000, 0, 2}, {0x20000000, 8, 2}, {0x20000000, 9, 2}, {0xFFFFFFFF, 9, 2}, {0x98CEC9EB, 4, 2},
+        {0x1FFFFFFF, 9, 3}, {0, 9, 3},          {0, 16, 3},
+    };
+    char line[MODEL_LOG_TEXT];
+    for (size_t i = 0; i < sizeof refused / sizeof refused[0]; i++) {
+        const model_log_line l = line_written(refused[i].number, bytes, refused[i].count, 12003, line);
+        CHECK(l.refusal == refused[i].refusal && l.length == 0);
+    }
+    CHECK(model_log_write(0x1FFFFFFF, NULL, SIZE_MAX, 0, line).refusal == 3);
+    CHECK(model_log_write(0x20000000, NULL, SIZE_MAX, 0, line).refusal == 2);
+    uint8_t longer[257 + 8] = {0};
+    for (size_t count = 9; count < sizeof longer; count++) {
+        const model_log_line l = line_written(0x18CEC9EB, longer, count, 0, line);
+        CHECK(l.refusal == 3 && l.length == 0);
+    }
+
+    /* seconds of every number of digits, and each number of data bytes */
+    for (uint32_t power = 1; power <= 1000000000u; power *= 10) {
+        for (size_t count = 0; count <= 8; count++) {
+            CHECK(writes_frame(0x18CEC9EB, bytes, count, power - 1) && writes_frame(0x18CEC9EB, bytes, count, power));
+        }
+    }
+    for (int i = 0; i < 50000; i++) {
+        uint8_t some[8];
+        for (size_t k = 0; k < 8; k++) {
+            some[k] = (uint8_t)any();
+        }
+        const uint32_t number = any() & 0x1FFFFFFFu, stamp = any() >> below(32);
+        const size_t count = below(9);
+        CHECK(writes_frame(number, some, count, stamp));
+        const model_log_line l = line_written(number | (1 + below(7)) << 29, some, count, stamp, line);
+        CHECK(l.refusal == 2 && l.length == 0);
+    }
+}
+
 int main(int argc, char **argv)
 {
     if (argc != 2) {
@@ -2525,6 +3233,14 @@ int main(int argc, char **argv)
     test_mending_longest();
     test_mending_refused();
     test_mending_random();
+    test_log_worked();
+    test_log_malformed();
+    test_log_counts();
+    test_log_bytes();
+    test_log_longest();
+    test_log_edits();
+    test_log_random();
+    test_log_written();
     CHECK(rest_is_unwritten(0, 0));
     printf("selftest of the %s: %lu checks passed\n", argv[1], checks);
     return 0;
