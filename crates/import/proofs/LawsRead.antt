@@ -72,58 +72,62 @@ module _ {buffer : List ℕ} {c : Counts} {held turns : ℕ} (l : Looping buffer
   pub read-end : {r : Counts} → Ends c (take held buffer) r → OfLog r
   read-end e = (l .log, sym (e .ends (l .log) (l .stands) (l .open-line)))
 
-  -- bytes more were read, up to a place
-  module _ {end : ℕ} (a : held ≤ end) (b : end ≤ 65536) where
-    abbrev text-log : List ℕ
-    text-log = l .log ++ drop held (take end buffer)
+-- a turn in which bytes were read up to a place, and the lines in them were taken
+pub record Turn (buffer : List ℕ) (c : Counts) (held turns end : ℕ) (t : Taken) : Type 0 where
+  pub looping : Looping buffer c held turns
+  pub some : 0 < turns
+  pub behind : held ≤ end
+  pub within : end ≤ 65536
+  pub takes : Takes c (take end buffer) t
+  pub told : t .refused ≡ isRefused (t .counts .answer)
 
-    text-stands : Standing text-log c (take end buffer)
-    text-stands =
-        let front : take held (take end buffer) ≡ take held buffer = take-take held end buffer a in
-        let whole : take held buffer ++ drop held (take end buffer) ≡ take end buffer = ap (λ (y : List ℕ). y ++ drop held (take end buffer)) (sym front) ∙ take-append-drop held (take end buffer) in
-        subst (Standing text-log c) whole (standing-more (l .stands) (drop held (take end buffer)))
+module _ {buffer : List ℕ} {c : Counts} {held turns end : ℕ} {t : Taken} (u : Turn buffer c held turns end t) where
+  abbrev text-log : List ℕ
+  text-log = u .looping .log ++ drop held (take end buffer)
 
-    module _ {t : Taken} (taken : Takes c (take end buffer) t × (t .refused ≡ isRefused (t .counts .answer))) where
-      abbrev k : Takes c (take end buffer) t
-      k = taken .0
+  stands-behind : Standing text-log (t .counts) (drop (t .at) (take end buffer))
+  stands-behind =
+      let front : take held (take end buffer) ≡ take held buffer = take-take held end buffer (u .behind) in
+      let whole : take held buffer ++ drop held (take end buffer) ≡ take end buffer = ap (λ (y : List ℕ). y ++ drop held (take end buffer)) (sym front) ∙ take-append-drop held (take end buffer) in
+      u .takes .stands text-log (subst (Standing text-log c) whole (standing-more (u .looping .stands) (drop held (take end buffer))))
 
-      -- a line was refused
-      pub read-refused : t .refused ≡ true → OfLog (t .counts)
-      read-refused q = (text-log, sym (refused-ends (k .stands text-log text-stands) (sym (taken .1) ∙ q)))
+  -- a line was refused
+  pub read-refused : t .refused ≡ true → OfLog (t .counts)
+  read-refused q = (text-log, sym (refused-ends stands-behind (sym (u .told) ∙ q)))
 
-      text-long : length (take end buffer) ≡ end
-      text-long = length-take-le end buffer (omega (arith, l .long))
+  text-long : length (take end buffer) ≡ end
+  text-long = length-take-le end buffer (omega (arith, u .looping .long, u .within))
 
-      module _ (q : t .refused ≡ false) where
-        still-done : t .counts .answer ≡ answer.Done
-        still-done = not-refused _ (sym (taken .1) ∙ q)
+  module _ (q : t .refused ≡ false) where
+    still-done : t .counts .answer ≡ answer.Done
+    still-done = not-refused _ (sym (u .told) ∙ q)
 
-        pub at-near : t .at ≤ end
-        at-near = omega (arith, k .near, text-long)
+    pub at-near : t .at ≤ end
+    at-near = omega (arith, u .takes .near, text-long)
 
-        pub few-lines : t .counts .lines ≤ 65536 * (140737488355328 - (turns - 1))
-        few-lines = omega (arith, k .few, text-long, l .few, l .most)
+    pub few-lines : t .counts .lines ≤ 65536 * (140737488355328 - (turns - 1))
+    few-lines = omega (arith, u .takes .few, text-long, u .looping .few, u .looping .most, u .some, u .within)
 
-        pub ready-still : Ready (t .counts) 1
-        ready-still = record { counted = k .counted; done = still-done; room = omega (arith, few-lines) }
+    pub ready-still : Ready (t .counts) 1
+    ready-still = record { counted = u .takes .counted; done = still-done; room = omega (arith, few-lines, u .looping .most, u .some) }
 
-        -- the line that has begun is too long
-        pub read-long : 255 < end - t .at → {r : Counts} → r ≡ nextCounts (t .counts) (line.Refused (refusal 25)) → OfLog r
-        read-long h e =
-            let n : 255 < length (drop (t .at) (take end buffer)) = omega (arith, length-drop (t .at) (take end buffer), text-long) in
-            (text-log, e ∙ sym (long-ends (k .stands text-log text-stands) still-done (k .begun-line q) n))
+    -- the line that has begun is too long
+    pub read-long : 255 < end - t .at → {r : Counts} → r ≡ nextCounts (t .counts) (line.Refused (refusal 25)) → OfLog r
+    read-long h e =
+        let n : 255 < length (drop (t .at) (take end buffer)) = omega (arith, length-drop (t .at) (take end buffer), text-long) in
+        (text-log, e ∙ sym (long-ends stands-behind still-done (u .takes .begun-line q) n))
 
-        -- it is moved to the start
-        pub looping-again : end - t .at ≤ 255 → {moved : List ℕ} {count : ℕ} → Moved buffer (t .at) end count moved → Looping moved (t .counts) count (turns - 1)
-        looping-again h {moved} {count} m =
-            record {
-              long = m .long ∙ l .long;
-              short = omega (arith, m .many);
-              counted = k .counted;
-              done = still-done;
-              most = omega (arith, l .most);
-              few = few-lines;
-              log = text-log;
-              stands = subst (Standing text-log (t .counts)) (sym (m .stand)) (k .stands text-log text-stands);
-              open-line = subst (Each inLine) (sym (m .stand)) (k .begun-line q);
-            }
+    -- it is moved to the start
+    pub looping-again : end - t .at ≤ 255 → {moved : List ℕ} {count : ℕ} → Moved buffer (t .at) end count moved → Looping moved (t .counts) count (turns - 1)
+    looping-again h {moved} {count} m =
+        record {
+          long = m .long ∙ u .looping .long;
+          short = omega (arith, m .many);
+          counted = u .takes .counted;
+          done = still-done;
+          most = omega (arith, u .looping .most);
+          few = few-lines;
+          log = text-log;
+          stands = subst (Standing text-log (t .counts)) (sym (m .stand)) stands-behind;
+          open-line = subst (Each inLine) (sym (m .stand)) (u .takes .begun-line q);
+        }
