@@ -139,7 +139,6 @@ static castanhiu_record record;
 static uint8_t request[16];
 static size_t request_length;
 
-/* Two of three codes have severity 80. */
 static void full_record(void)
 {
     record.availability = 0x7F;
@@ -148,8 +147,6 @@ static void full_record(void)
     for (unsigned i = 0; i < 63; i++) {
         record.codes[i] = 0x010203 + 16 * i;
         record.statuses[i] = i % 2 == 0 ? 0x08 : 0x09;
-        record.severities[i] = i % 3 == 0 ? 0x20 : 0x80;
-        record.units[i] = 0x10;
     }
     for (unsigned k = 0; k < 16; k++) {
         record.identifiers[k] = (uint16_t)(0xF180 + k);
@@ -163,8 +160,6 @@ static void near_empty_record(void)
     record.count = 1;
     record.codes[0] = 0x010203;
     record.statuses[0] = 0x08;
-    record.severities[0] = 0x80;
-    record.units[0] = 0x10;
     record.held = 1;
     record.identifiers[0] = 0xF190;
     record.lengths[0] = 17;
@@ -181,8 +176,6 @@ static void asks(size_t length, const uint8_t *bytes)
 static void full_3e(void) { full_record(); ASKS(0x3E, 0x00); }
 static void full_1901(void) { full_record(); ASKS(0x19, 0x01, 0x08); }
 static void full_1902(void) { full_record(); ASKS(0x19, 0x02, 0x08); }
-static void full_1907(void) { full_record(); ASKS(0x19, 0x07, 0x80, 0x08); }
-static void full_1908(void) { full_record(); ASKS(0x19, 0x08, 0x80, 0x08); }
 static void full_22(void) { full_record(); ASKS(0x22, 0xF1, 0x80, 0xF1, 0x85, 0xF1, 0x8A, 0xF1, 0x8F); }
 static void full_14(void) { full_record(); ASKS(0x14, 0x01, 0x04, 0xE3); }
 static void empty_3e(void) { near_empty_record(); ASKS(0x3E, 0x00); }
@@ -548,8 +541,6 @@ static const work works[] = {
     {"serve-3E-full", 1, full_3e, serve_archive, serve_model},
     {"serve-1901-full", 1, full_1901, serve_archive, serve_model},
     {"serve-1902-full", 1, full_1902, serve_archive, serve_model},
-    {"serve-1907-full", 1, full_1907, serve_archive, serve_model},
-    {"serve-1908-full", 1, full_1908, serve_archive, serve_model},
     {"serve-22-full", 1, full_22, serve_archive, serve_model},
     {"serve-14-full", 1, full_14, serve_archive, serve_model},
     {"serve-3E-near-empty", 1, empty_3e, serve_archive, serve_model},

@@ -80,15 +80,12 @@ typedef struct {
 /* A frame to send: its identifier and its first `length` data bytes; those past them are 0. */
 typedef struct { uint8_t refusal, length; uint32_t identifier; uint8_t data[8]; } castanhiu_frame;
 
-/* Codes and identifiers ascend; identifier k has lengths[k] bytes from bytes[32 * k] on. Code i has the severity severities[i]
- * and the functional unit units[i], any bytes, which the host sets here and no call changes. Places past count and held are
- * free. */
+/* Codes and identifiers ascend; identifier k has lengths[k] bytes from bytes[32 * k] on. Places past count and held are free. */
 typedef struct {
     uint32_t codes[63];
     uint8_t statuses[63], count, availability;
     uint16_t identifiers[16];
     uint8_t lengths[16], bytes[512], held;
-    uint8_t severities[63], units[63];
 } castanhiu_record;
 typedef struct { uint8_t refusal; } castanhiu_record_answer;
 typedef struct { uint8_t refusal; bool silent; size_t length; } castanhiu_serve_answer;
@@ -105,9 +102,7 @@ _Static_assert(offsetof(castanhiu_reception, length) == 0 && offsetof(castanhiu_
 _Static_assert(offsetof(castanhiu_node, own) == 0 && offsetof(castanhiu_node, unit) == 4, "node");
 _Static_assert(sizeof(castanhiu_node_answer) == 1 && sizeof(castanhiu_outcome) == 8, "node answer, outcome");
 _Static_assert(sizeof(castanhiu_frame) == 16 && offsetof(castanhiu_frame, data) == 8, "frame");
-_Static_assert(sizeof(castanhiu_record) == 1008 && offsetof(castanhiu_record, bytes) == 366, "record");
-_Static_assert(offsetof(castanhiu_record, statuses) == 252 && offsetof(castanhiu_record, held) == 878, "record");
-_Static_assert(offsetof(castanhiu_record, severities) == 879 && offsetof(castanhiu_record, units) == 942, "record");
+_Static_assert(sizeof(castanhiu_record) == 880 && offsetof(castanhiu_record, bytes) == 366, "record");
 _Static_assert(sizeof(castanhiu_record_answer) == 1 && sizeof(castanhiu_serve_answer) == 2 * sizeof(size_t), "record answers");
 _Static_assert(sizeof(castanhiu_mended) == 12 && offsetof(castanhiu_mended, kept) == 4, "mended");
 _Static_assert(sizeof(castanhiu_log_frame) == 12 && offsetof(castanhiu_log_frame, identifier) == 4, "log frame");
@@ -189,14 +184,13 @@ castanhiu_record_answer castanhiu_record_check(const castanhiu_record *record);
 
 /* Answers one request; the response has CASTANHIU_RESPONSE bytes, of which `length` are sent, none where silent.
  * Refuses: 1 a record that breaks its rules, 17 a request of 0 or over 255 bytes, a response buffer of another length.
- * Memory: of the record statuses change, by service 14 alone, and no severity or unit; bytes past the response stay, all stay
- * when silent or refused. */
+ * Memory: statuses change by service 14 alone; bytes past the response stay, all stay when silent or refused. */
 castanhiu_serve_answer castanhiu_serve(castanhiu_record *record, const uint8_t *request, size_t request_length,
                                        bool functional, uint8_t *response, size_t response_length);
 
 /* Sets the status of one code.
  * Refuses: 1 a record that breaks its rules, 18 a code not held, 19 a status outside the mask.
- * Memory: that one status changes, and nothing else; nothing where refused. */
+ * Memory: that one status changes, and nothing where refused. */
 castanhiu_record_answer castanhiu_set_status(castanhiu_record *record, uint32_t code, uint8_t status);
 
 /* Prints the count sheet of an input into a page of CASTANHIU_PAGE bytes; answers how many bytes the text has.

@@ -635,11 +635,6 @@ static void cutter(unsigned long count)
 /* ---- the server ---------------------------------------------------------------------------- */
 
 _Static_assert(sizeof(castanhiu_record) == sizeof(model_record), "one layout");
-_Static_assert(offsetof(castanhiu_record, severities) == offsetof(model_record, severities), "one layout");
-_Static_assert(offsetof(castanhiu_record, units) == offsetof(model_record, units), "one layout");
-
-/* The bytes of a record, without what pads it. */
-enum { RECORD_BYTES = offsetof(castanhiu_record, units) + 63 };
 
 static int ascending(const void *a, const void *b)
 {
@@ -648,19 +643,6 @@ static int ascending(const void *a, const void *b)
 }
 
 static const uint8_t masks[] = {0x49, 0x4B, 0x4F, 0x79, 0x7B, 0x7F, 0xC9, 0xCB, 0xCF, 0xF9, 0xFB, 0xFF};
-
-/* A number of codes, anywhere, get bit 7 of the severity. Every status gets bit 0, and has bit 6 once it is cleared, so that the
- * masks 80 41 find just these. */
-static void mark_severe(castanhiu_record *r)
-{
-    uint32_t left = one_in(4) ? below(r->count + 1u) : OF(0, 41, 42, 43, 63);
-    for (unsigned i = 0; i < r->count; i++) {
-        const uint8_t bit = below(r->count - i) < left ? 0x80 : 0x00;
-        left -= bit != 0;
-        r->severities[i] = (uint8_t)((r->severities[i] & 0x7F) | bit);
-        r->statuses[i] |= 0x01;
-    }
-}
 
 /* A record that keeps its rules, with anything in its free places; codes and identifiers lie close together. */
 static castanhiu_record a_record(void)
@@ -701,9 +683,6 @@ static castanhiu_record a_record(void)
         r.identifiers[k] = (uint16_t)identifiers[k];
         r.lengths[k] = (uint8_t)(1 + below(longest));
     }
-    if (one_in(2)) {
-        mark_severe(&r);
-    }
     return r;
 }
 
@@ -743,7 +722,7 @@ static size_t a_request(const castanhiu_record *r, uint8_t *request)
 {
     fill(request, 300);
     size_t length = 2;
-    switch (below(10)) {
+    switch (below(8)) {
     case 0: {
         request[0] = 0x14;
         const uint32_t code = one_in(3) ? 0xFFFFFF : r->codes[below(63)] ^ (one_in(5) ? 1 : 0);
@@ -762,15 +741,7 @@ static size_t a_request(const castanhiu_record *r, uint8_t *request)
         length = (request[1] & 0x7F) == 0x0A ? 2 : 3;
         break;
     case 4:
-    case 5:
-        request[0] = 0x19;
-        request[1] = (uint8_t)(OF(0x07, 0x08, 0x08) | (one_in(6) ? 0x80 : 0));
-        request[2] = (uint8_t)(one_in(2) ? 0x80 : OF(0x00, 0xE0, 0xFF, 1u << below(8), any()));
-        request[3] = (uint8_t)(one_in(2) ? 0x41 : OF(0x00, 0x08, 0xFF, 1u << below(8), any()));
-        length = 4;
-        break;
-    case 6:
-    case 7: {
+    case 5: {
         request[0] = 0x22;
         const unsigned asked = one_in(8) ? 127 : 1 + below(OF(4, 10, 40));
         for (unsigned j = 0; j < asked; j++) {
@@ -781,7 +752,7 @@ static size_t a_request(const castanhiu_record *r, uint8_t *request)
         length = 1 + 2 * asked;
         break;
     }
-    case 8:
+    case 6:
         request[0] = 0x3E;
         request[1] = (uint8_t)OF(0x00, 0x80, 0x01, 0x81, any() & 0xFF);
         break;
@@ -801,21 +772,6 @@ static size_t a_request(const castanhiu_record *r, uint8_t *request)
 
 static unsigned long silences, sent_bytes;
 
-/* Well-formed requests by severity, by how many codes match. */
-static unsigned long matched[64];
-
-static void count_severe(const castanhiu_record *r, const uint8_t *request, size_t length)
-{
-    if (request[0] != 0x19 || length != 4 || ((request[1] & 0x7F) != 0x07 && (request[1] & 0x7F) != 0x08)) {
-        return;
-    }
-    unsigned matches = 0;
-    for (unsigned i = 0; i < r->count; i++) {
-        matches += (r->severities[i] & request[2]) != 0 && (r->statuses[i] & request[3]) != 0;
-    }
-    matched[matches]++;
-}
-
 static void server(unsigned long count)
 {
     begin("record_check");
@@ -828,7 +784,7 @@ static void server(unsigned long count)
         memcpy(&m, &r, sizeof m);
         const castanhiu_record_answer a = castanhiu_record_check(&r);
         SAME(a.refusal, model_record_keeps_rules(&m) ? 0 : 1);
-        SAME_BYTES(&r, &m, RECORD_BYTES);
+        SAME_BYTES(&r, &m, offsetof(castanhiu_record, held) + 1);
         answered(a.refusal);
     }
     end();
@@ -856,24 +812,14 @@ static void server(unsigned long count)
             SAME(a.length, b.sent);
             SAME_BYTES(answer, twin, sizeof answer);
             SAME_BYTES(request, copy, sizeof request);
-            SAME_BYTES(&r, &m, RECORD_BYTES);
+            SAME_BYTES(&r, &m, offsetof(castanhiu_record, held) + 1);
             silences += a.silent;
             sent_bytes += a.length;
-            if (b.refusal == 0) {
-                count_severe(&r, request, length);
-            }
             answered(b.refusal);
         }
     }
     end();
     printf("    of them %lu silent, and %lu bytes sent\n", silences, sent_bytes);
-    unsigned long by_severity = 0, more = 0;
-    for (unsigned i = 0; i < 64; i++) {
-        by_severity += matched[i];
-        more += i > 43 ? matched[i] : 0;
-    }
-    printf("    of them %lu by severity: %lu match no code, %lu match 41, %lu 42, %lu 43, %lu more\n", by_severity, matched[0],
-           matched[41], matched[42], matched[43], more);
 
     begin("set_status");
     while (cases < count) {
@@ -888,7 +834,7 @@ static void server(unsigned long count)
             const uint8_t status = (uint8_t)(one_in(4) ? any() : any() & r.availability);
             const castanhiu_record_answer a = castanhiu_set_status(&r, code, status);
             SAME(a.refusal, model_set_status(&m, code, status));
-            SAME_BYTES(&r, &m, RECORD_BYTES);
+            SAME_BYTES(&r, &m, offsetof(castanhiu_record, held) + 1);
             answered(a.refusal);
         }
     }

@@ -1,6 +1,6 @@
 /*
  * An independent model of document 01, identifier, vehicle addresses, route, readings, receiver and
- * cutter, server, count sheet; and of document 02's ranking, mending, logs and severity.
+ * cutter, server, count sheet; and of document 02's ranking, mending and logs.
  *
  * Refusal numbers are the documents', 0 for none. On a refusal every other field of a result is 0,
  * save that refusal 11 of the receiver also says that overflow control is due and to whom.
@@ -195,8 +195,6 @@ typedef struct {
     uint8_t lengths[MODEL_IDENTIFIERS_MAX];
     uint8_t bytes[MODEL_IDENTIFIERS_MAX * MODEL_DATUM_MAX]; /* identifier k at 32 * k */
     uint8_t held;
-    uint8_t severities[MODEL_CODES_MAX]; /* of the codes, any bytes; no function writes them */
-    uint8_t units[MODEL_CODES_MAX];      /* functional units of the codes, likewise */
 } model_record;
 
 typedef struct {

@@ -1342,9 +1342,7 @@ static int same_record(const model_record *a, const model_record *b)
            a->availability == b->availability &&
            memcmp(a->identifiers, b->identifiers, sizeof a->identifiers) == 0 &&
            memcmp(a->lengths, b->lengths, sizeof a->lengths) == 0 &&
-           memcmp(a->bytes, b->bytes, sizeof a->bytes) == 0 && a->held == b->held &&
-           memcmp(a->severities, b->severities, sizeof a->severities) == 0 &&
-           memcmp(a->units, b->units, sizeof a->units) == 0;
+           memcmp(a->bytes, b->bytes, sizeof a->bytes) == 0 && a->held == b->held;
 }
 
 static model_record some_record(void)
@@ -1353,8 +1351,6 @@ static model_record some_record(void)
     for (unsigned i = 0; i < 63; i++) {
         r.codes[i] = any();
         r.statuses[i] = (uint8_t)any();
-        r.severities[i] = (uint8_t)any();
-        r.units[i] = (uint8_t)any();
     }
     for (unsigned i = 0; i < 16; i++) {
         r.identifiers[i] = (uint16_t)any();
@@ -1401,8 +1397,7 @@ static void test_record_rules(void)
     }
     const model_record good = {
         .codes = {0, 1, 0xFFFFFE}, .statuses = {0x49, 0, 0x4B}, .count = 3, .availability = 0x4B,
-        .identifiers = {0, 1, 0xFFFF}, .lengths = {1, 32, 32}, .held = 3,
-        .severities = {0x80, 0x20, 0x40, 0x11}, .units = {0x01, 0x02, 0x03, 0x04}};
+        .identifiers = {0, 1, 0xFFFF}, .lengths = {1, 32, 32}, .held = 3};
     CHECK(model_record_keeps_rules(&good));
     model_record bad;
 #define BROKEN(change)                                                     \
@@ -1413,8 +1408,6 @@ static void test_record_rules(void)
         CHECK(!model_record_keeps_rules(&bad));                            \
         const model_answer a_ = ask(&bad, 0, BYTES(0x3E, 0x00));           \
         CHECK(a_.refusal == 1 && a_.sent == 0);                            \
-        CHECK(ask(&bad, 0, BYTES(0x19, 0x07, 0xFF, 0xFF)).refusal == 1);   \
-        CHECK(ask(&bad, 0, BYTES(0x19, 0x08, 0xFF, 0xFF)).refusal == 1);   \
         CHECK(model_serve(&bad, NULL, 0, 0, NULL, 0).refusal == 1);        \
         CHECK(model_set_status(&bad, 0x77, 0xFF) == 1);                    \
         CHECK(same_record(&bad, &before_));                                \
@@ -1673,12 +1666,11 @@ static int plain_server(model_record *r, const uint8_t *q, int n, int is_functio
         code = 0x11;
     } else if ((q[0] == 0x19 || q[0] == 0x3E) && n < 2) {
         code = 0x13;
-    } else if ((q[0] == 0x19 && sub != 1 && sub != 2 && sub != 7 && sub != 8 && sub != 10) ||
-               (q[0] == 0x3E && sub != 0)) {
+    } else if ((q[0] == 0x19 && sub != 1 && sub != 2 && sub != 10) || (q[0] == 0x3E && sub != 0)) {
         code = 0x12;
     } else if ((q[0] == 0x14 && n != 4) || (q[0] == 0x19 && sub == 10 && n != 2) ||
-               (q[0] == 0x19 && sub < 7 && n != 3) || (q[0] == 0x19 && (sub == 7 || sub == 8) && n != 4) ||
-               (q[0] == 0x22 && (n < 3 || n % 2 == 0)) || (q[0] == 0x3E && n != 2)) {
+               (q[0] == 0x19 && sub != 10 && n != 3) || (q[0] == 0x22 && (n < 3 || n % 2 == 0)) ||
+               (q[0] == 0x3E && n != 2)) {
         code = 0x13;
     } else if (q[0] == 0x14) {
         const uint32_t group = q[1] * 65536u + q[2] * 256u + q[3];
@@ -1697,14 +1689,9 @@ static int plain_server(model_record *r, const uint8_t *q, int n, int is_functio
         big[length++] = (uint8_t)sub;
         big[length++] = r->availability;
         for (int i = 0; i < r->count; i++) {
-            if (sub == 10 || (sub < 7 && (r->statuses[i] & q[2])) ||
-                (sub >= 7 && (r->severities[i] & q[2]) && (r->statuses[i] & q[3]))) {
+            if (sub == 10 || (r->statuses[i] & q[2])) {
                 count++;
-                if (sub == 8) {
-                    big[length++] = r->severities[i];
-                    big[length++] = r->units[i];
-                }
-                if (sub != 1 && sub != 7) {
+                if (sub != 1) {
                     big[length++] = (uint8_t)(r->codes[i] / 65536);
                     big[length++] = (uint8_t)(r->codes[i] / 256 % 256);
                     big[length++] = (uint8_t)(r->codes[i] % 256);
@@ -1712,12 +1699,11 @@ static int plain_server(model_record *r, const uint8_t *q, int n, int is_functio
                 }
             }
         }
-        if (sub == 1 || sub == 7) {
+        if (sub == 1) {
             big[length++] = 3;
             big[length++] = (uint8_t)(count / 256);
             big[length++] = (uint8_t)(count % 256);
         }
-        code = length > 255 ? 0x14 : 0;
     } else if (q[0] == 0x22) {
         big[length++] = 0x62;
         for (int i = 1; i < n; i += 2) {
@@ -1768,9 +1754,9 @@ static void test_server_random(void)
             q[0] = services[below(5)];
         }
         if (q[0] == 0x19 && below(8)) {
-            static const uint8_t subs[] = {1, 2, 7, 8, 10, 0x81, 0x82, 0x87, 0x88, 0x8A, 0, 3, 6, 9};
-            q[1] = subs[below(14)];
-            n = below(4) ? (q[1] % 128 == 10 ? 2 : q[1] % 128 < 6 ? 3 : 4) : n;
+            static const uint8_t subs[] = {1, 2, 10, 0x81, 0x82, 0x8A, 0, 3};
+            q[1] = subs[below(8)];
+            n = below(4) ? (q[1] % 128 == 10 ? 2 : 3) : n;
         } else if (q[0] == 0x3E && below(8)) {
             q[1] = (uint8_t)(128 * below(2) + (below(4) ? 0 : 1));
             n = below(4) ? 2 : n;
@@ -1818,350 +1804,6 @@ static void test_server_random(void)
     for (int k = 0; k < 4; k++) {
         CHECK(kinds[k] > 500);
     }
-}
-
-/* ---- severity ------------------------------------------------------------------------------ */
-
-static model_record severe_three(void)
-{
-    return (model_record){
-        .codes = {0x010203, 0x010204, 0xA00000},
-        .statuses = {0x08, 0x50, 0x09},
-        .count = 3,
-        .availability = 0x7F,
-        .severities = {0x80, 0x20, 0x40},
-        .units = {0x10, 0xFF, 0x33},
-    };
-}
-
-static void test_severity_worked(void)
-{
-    model_record r = severe_three();
-    const model_record start = r;
-
-    /* A0 has a bit of the first two severities, 09 of the first and third status */
-    CHECK(answered(&r, 0, BYTES(0x19, 0x07, 0xA0, 0x09), BYTES(0x59, 0x07, 0x7F, 0x03, 0x00, 0x01)));
-    CHECK(answered(&r, 0, BYTES(0x19, 0x08, 0xA0, 0x09), BYTES(0x59, 0x08, 0x7F, 0x80, 0x10, 1, 2, 3, 0x08)));
-    CHECK(answered(&r, 0, BYTES(0x19, 0x07, 0xE0, 0xFF), BYTES(0x59, 0x07, 0x7F, 0x03, 0x00, 0x03)));
-    CHECK(answered(&r, 0, BYTES(0x19, 0x08, 0xE0, 0xFF),
-                   BYTES(0x59, 0x08, 0x7F, 0x80, 0x10, 0x01, 0x02, 0x03, 0x08, 0x20, 0xFF, 0x01, 0x02, 0x04, 0x50, 0x40,
-                         0x33, 0xA0, 0x00, 0x00, 0x09)));
-    /* the first and the third */
-    CHECK(answered(&r, 0, BYTES(0x19, 0x07, 0xC1, 0x0C), BYTES(0x59, 0x07, 0x7F, 0x03, 0x00, 0x02)));
-    CHECK(answered(&r, 0, BYTES(0x19, 0x08, 0xC1, 0x0C),
-                   BYTES(0x59, 0x08, 0x7F, 0x80, 0x10, 1, 2, 3, 0x08, 0x40, 0x33, 0xA0, 0, 0, 0x09)));
-
-    /* a bit in common with one of both masks alone, with none, and masks 00 */
-    static const uint8_t none[][2] = {{0x80, 0x50}, {0x80, 0x01}, {0x20, 0x09}, {0x20, 0x2F}, {0x40, 0x50},
-                                      {0x40, 0x76}, {0x1F, 0xFF}, {0xFF, 0x80}, {0xFF, 0x26}, {0x1F, 0x26},
-                                      {0x00, 0xFF}, {0xFF, 0x00}, {0x00, 0x00}, {0x00, 0x08}, {0x80, 0x00}};
-    for (unsigned i = 0; i < sizeof none / sizeof none[0]; i++) {
-        for (int is_functional = 0; is_functional < 2; is_functional++) {
-            CHECK(answered(&r, is_functional, BYTES(0x19, 0x07, none[i][0], none[i][1]),
-                           BYTES(0x59, 0x07, 0x7F, 0x03, 0x00, 0x00)));
-            CHECK(answered(&r, is_functional, BYTES(0x19, 0x08, none[i][0], none[i][1]), BYTES(0x59, 0x08, 0x7F)));
-        }
-    }
-
-    /* bit 7 silences a positive answer; a functional request has one */
-    CHECK(answered(&r, 0, BYTES(0x19, 0x87, 0xA0, 0x09), SILENT));
-    CHECK(answered(&r, 0, BYTES(0x19, 0x88, 0xA0, 0x09), SILENT));
-    CHECK(answered(&r, 1, BYTES(0x19, 0x87, 0xA0, 0x09), SILENT));
-    CHECK(answered(&r, 1, BYTES(0x19, 0x88, 0x00, 0x00), SILENT));
-    CHECK(answered(&r, 1, BYTES(0x19, 0x07, 0xA0, 0x09), BYTES(0x59, 0x07, 0x7F, 0x03, 0x00, 0x01)));
-    CHECK(answered(&r, 1, BYTES(0x19, 0x08, 0xA0, 0x09), BYTES(0x59, 0x08, 0x7F, 0x80, 0x10, 1, 2, 3, 0x08)));
-
-    /* reports 01, 02 and 0A look at no severity */
-    CHECK(answered(&r, 0, BYTES(0x19, 0x01, 0x08), BYTES(0x59, 0x01, 0x7F, 0x03, 0x00, 0x02)));
-    CHECK(answered(&r, 0, BYTES(0x19, 0x02, 0x50), BYTES(0x59, 0x02, 0x7F, 1, 2, 4, 0x50)));
-    CHECK(answered(&r, 0, BYTES(0x19, 0x0A),
-                   BYTES(0x59, 0x0A, 0x7F, 1, 2, 3, 0x08, 1, 2, 4, 0x50, 0xA0, 0, 0, 0x09)));
-    CHECK(same_record(&r, &start));
-
-    /* a severity may have bits that no status has here, and is listed whole */
-    r = (model_record){.codes = {0xFEDCBA}, .statuses = {0x41}, .count = 1, .availability = 0x49,
-                       .severities = {0xB6}, .units = {0x33}};
-    CHECK(answered(&r, 0, BYTES(0x19, 0x08, 0x02, 0x01), BYTES(0x59, 0x08, 0x49, 0xB6, 0x33, 0xFE, 0xDC, 0xBA, 0x41)));
-    CHECK(answered(&r, 0, BYTES(0x19, 0x07, 0x86, 0xF2), BYTES(0x59, 0x07, 0x49, 0x03, 0x00, 0x01)));
-    CHECK(answered(&r, 0, BYTES(0x19, 0x07, 0x49, 0xFF), BYTES(0x59, 0x07, 0x49, 0x03, 0x00, 0x00)));
-    /* a status 00 has no bit, a severity 00 neither */
-    r.statuses[0] = 0x00;
-    CHECK(answered(&r, 0, BYTES(0x19, 0x08, 0xFF, 0xFF), BYTES(0x59, 0x08, 0x49)));
-    r.statuses[0] = 0x49;
-    r.severities[0] = 0x00;
-    CHECK(answered(&r, 0, BYTES(0x19, 0x07, 0xFF, 0xFF), BYTES(0x59, 0x07, 0x49, 0x03, 0x00, 0x00)));
-
-    /* 17, with the whole response as found */
-    uint8_t before[MODEL_RESPONSE_LENGTH];
-    memcpy(before, response, sizeof before);
-    const uint8_t request[4] = {0x19, 0x08, 0xE0, 0xFF};
-    r = start;
-    CHECK(model_serve(&r, request, 4, 0, response, 254).refusal == 17);
-    CHECK(memcmp(response, before, sizeof before) == 0 && same_record(&r, &start));
-}
-
-/* Every severity and severity mask, every status and status mask: any bit in common, and no other condition. */
-static void test_severity_masks(void)
-{
-    for (unsigned byte = 0; byte < 256; byte++) {
-        model_record by_severity = {.codes = {1}, .statuses = {0x10}, .count = 1, .availability = 0xFF,
-                                    .severities = {(uint8_t)byte}, .units = {0x07}};
-        model_record by_status = {.codes = {1}, .statuses = {(uint8_t)byte}, .count = 1, .availability = 0xFF,
-                                  .severities = {0x02}, .units = {0x07}};
-        const uint8_t severities[9] = {0x59, 0x08, 0xFF, (uint8_t)byte, 0x07, 0, 0, 1, 0x10};
-        const uint8_t statuses[9] = {0x59, 0x08, 0xFF, 0x02, 0x07, 0, 0, 1, (uint8_t)byte};
-        for (unsigned mask = 0; mask < 256; mask++) {
-            uint8_t common = 0;
-            for (unsigned bit = 0; bit < 8; bit++) {
-                common |= (byte >> bit) % 2 == 1 && (mask >> bit) % 2 == 1;
-            }
-            CHECK(answered(&by_severity, 0, BYTES(0x19, 0x07, (uint8_t)mask, 0x30),
-                           BYTES(0x59, 0x07, 0xFF, 0x03, 0x00, common)));
-            CHECK(answered(&by_severity, 0, BYTES(0x19, 0x08, (uint8_t)mask, 0x30), severities, common ? 9 : 3));
-            CHECK(answered(&by_status, 0, BYTES(0x19, 0x07, 0x03, (uint8_t)mask),
-                           BYTES(0x59, 0x07, 0xFF, 0x03, 0x00, common)));
-            CHECK(answered(&by_status, 0, BYTES(0x19, 0x08, 0x03, (uint8_t)mask), statuses, common ? 9 : 3));
-        }
-    }
-}
-
-/* Requests of every length but 4, and sub-functions beside the two, of a record all of whose codes are severe. */
-static void test_severity_order(void)
-{
-    model_record r = {.count = 63, .availability = 0x7F};
-    for (unsigned i = 0; i < 63; i++) {
-        r.codes[i] = i;
-        r.statuses[i] = 0x7F;
-        r.severities[i] = 0xFF;
-    }
-    const model_record start = r;
-    static const uint8_t lengths[] = {2, 3, 4, 5, 6, 255};
-    uint8_t request[255];
-    memset(request, 0xFF, sizeof request);
-    request[0] = 0x19;
-    for (int is_functional = 0; is_functional < 2; is_functional++) {
-        for (unsigned sub = 0; sub < 256; sub++) {
-            const unsigned low = sub % 128;
-            request[1] = (uint8_t)sub;
-            if (low == 7 || low == 8) {
-                for (size_t n = 1; n < 256; n++) {
-                    CHECK(n == 4 || answered(&r, is_functional, request, n, BYTES(0x7F, 0x19, 0x13)));
-                }
-            } else if (low != 1 && low != 2 && low != 10) {
-                for (unsigned k = 0; k < sizeof lengths; k++) {
-                    CHECK(is_functional ? answered(&r, 1, request, lengths[k], SILENT)
-                                        : answered(&r, 0, request, lengths[k], BYTES(0x7F, 0x19, 0x12)));
-                }
-            }
-        }
-        /* the other reports have no second mask */
-        CHECK(answered(&r, is_functional, BYTES(0x19, 0x01, 0xFF, 0xFF), BYTES(0x7F, 0x19, 0x13)));
-        CHECK(answered(&r, is_functional, BYTES(0x19, 0x02, 0xFF, 0xFF), BYTES(0x7F, 0x19, 0x13)));
-        CHECK(answered(&r, is_functional, BYTES(0x19, 0x0A, 0xFF, 0xFF), BYTES(0x7F, 0x19, 0x13)));
-    }
-    CHECK(same_record(&r, &start));
-}
-
-/* 42 of 63 codes are severe, those whose place is no multiple of 3: 3 + 42 x 6 = 255 bytes. Then one more. */
-static void test_severity_longest(void)
-{
-    model_record r = {.count = 63, .availability = 0x7F};
-    uint8_t expected[255] = {0x59, 0x08, 0x7F};
-    unsigned length = 3;
-    for (unsigned i = 0; i < 63; i++) {
-        r.codes[i] = 0x3F0100 + 0x010203 * i;
-        r.statuses[i] = (uint8_t)(i % 2 == 0 ? 0x08 : 0x29);
-        r.severities[i] = (uint8_t)(i % 3 == 0 ? 0x60 : 0x80 + i);
-        r.units[i] = (uint8_t)(0xFF - i);
-        if (i % 3 != 0) {
-            expected[length++] = (uint8_t)(0x80 + i);
-            expected[length++] = (uint8_t)(0xFF - i);
-            expected[length++] = (uint8_t)(0x3F + i);
-            expected[length++] = (uint8_t)(0x01 + 2 * i);
-            expected[length++] = (uint8_t)(3 * i);
-            expected[length++] = (uint8_t)(i % 2 == 0 ? 0x08 : 0x29);
-        }
-    }
-    CHECK(length == 255);
-    for (int is_functional = 0; is_functional < 2; is_functional++) {
-        CHECK(answered(&r, is_functional, BYTES(0x19, 0x08, 0x80, 0x08), expected, 255));
-        CHECK(answered(&r, is_functional, BYTES(0x19, 0x88, 0x80, 0x08), SILENT));
-        CHECK(answered(&r, is_functional, BYTES(0x19, 0x07, 0x80, 0x08), BYTES(0x59, 0x07, 0x7F, 0x03, 0x00, 42)));
-        CHECK(answered(&r, is_functional, BYTES(0x19, 0x87, 0x80, 0x08), SILENT));
-    }
-
-    /* the forty-third at each of the other places; a count is never too long */
-    const model_record fits = r;
-    for (unsigned i = 0; i < 63; i += 3) {
-        r = fits;
-        r.severities[i] = 0xE0;
-        const model_record start = r;
-        for (int is_functional = 0; is_functional < 2; is_functional++) {
-            CHECK(answered(&r, is_functional, BYTES(0x19, 0x08, 0x80, 0x08), BYTES(0x7F, 0x19, 0x14)));
-            CHECK(answered(&r, is_functional, BYTES(0x19, 0x88, 0x80, 0x08), BYTES(0x7F, 0x19, 0x14)));
-            CHECK(answered(&r, is_functional, BYTES(0x19, 0x07, 0x80, 0x08), BYTES(0x59, 0x07, 0x7F, 0x03, 0x00, 43)));
-            CHECK(answered(&r, is_functional, BYTES(0x19, 0x87, 0x80, 0x08), SILENT));
-        }
-        CHECK(same_record(&r, &start));
-        /* its status has no bit of the mask: 42 again */
-        r.statuses[i] = 0x41;
-        CHECK(answered(&r, 0, BYTES(0x19, 0x08, 0x80, 0x08), expected, 255));
-    }
-
-    /* all 63: reports 02 and 0A still fit */
-    CHECK(answered(&r, 0, BYTES(0x19, 0x08, 0xFF, 0xFF), BYTES(0x7F, 0x19, 0x14)));
-    CHECK(answered(&r, 1, BYTES(0x19, 0x88, 0xFF, 0xFF), BYTES(0x7F, 0x19, 0x14)));
-    CHECK(answered(&r, 0, BYTES(0x19, 0x07, 0xFF, 0xFF), BYTES(0x59, 0x07, 0x7F, 0x03, 0x00, 63)));
-    CHECK(ask(&r, 0, BYTES(0x19, 0x02, 0xFF)).sent == 255 && response[1] == 0x02);
-    CHECK(ask(&r, 0, BYTES(0x19, 0x0A)).sent == 255 && response[1] == 0x0A);
-    /* 42 codes and 43, all severe */
-    r = fits;
-    memset(r.severities, 0x01, sizeof r.severities);
-    r.count = 42;
-    CHECK(ask(&r, 0, BYTES(0x19, 0x08, 0x01, 0x08)).sent == 255 && response[0] == 0x59 && response[254] == 0x29);
-    r.count = 43;
-    CHECK(answered(&r, 0, BYTES(0x19, 0x08, 0x01, 0x08), BYTES(0x7F, 0x19, 0x14)));
-}
-
-/* Both bytes are the host's: no call changes one, and the places past the count are free. */
-static void test_severity_stays(void)
-{
-    model_record r = severe_three();
-    for (unsigned i = 3; i < 63; i++) {
-        r.codes[i] = UINT32_MAX;
-        r.statuses[i] = r.severities[i] = r.units[i] = 0xFF;
-    }
-    CHECK(answered(&r, 0, BYTES(0x19, 0x07, 0xFF, 0xFF), BYTES(0x59, 0x07, 0x7F, 0x03, 0x00, 0x03)));
-    CHECK(answered(&r, 0, BYTES(0x19, 0x08, 0x4F, 0xFF), BYTES(0x59, 0x08, 0x7F, 0x40, 0x33, 0xA0, 0, 0, 0x09)));
-
-    /* cleared: one, all, a code not held, a wrong length */
-    model_record expected = r;
-    CHECK(answered(&r, 0, BYTES(0x14, 1, 2, 5), BYTES(0x7F, 0x14, 0x31)));
-    CHECK(answered(&r, 1, BYTES(0x14, 1, 2, 5), SILENT));
-    CHECK(answered(&r, 0, BYTES(0x14, 0xFF, 0xFF), BYTES(0x7F, 0x14, 0x13)));
-    CHECK(same_record(&r, &expected));
-    expected.statuses[2] = 0x50;
-    CHECK(answered(&r, 0, BYTES(0x14, 0xA0, 0x00, 0x00), BYTES(0x54)));
-    CHECK(same_record(&r, &expected));
-    CHECK(answered(&r, 0, BYTES(0x19, 0x08, 0x40, 0xFF), BYTES(0x59, 0x08, 0x7F, 0x40, 0x33, 0xA0, 0, 0, 0x50)));
-    expected.statuses[0] = 0x50;
-    CHECK(answered(&r, 0, BYTES(0x14, 0xFF, 0xFF, 0xFF), BYTES(0x54)));
-    CHECK(same_record(&r, &expected));
-    CHECK(answered(&r, 0, BYTES(0x19, 0x08, 0xE0, 0x10),
-                   BYTES(0x59, 0x08, 0x7F, 0x80, 0x10, 1, 2, 3, 0x50, 0x20, 0xFF, 1, 2, 4, 0x50, 0x40, 0x33, 0xA0, 0, 0,
-                         0x50)));
-
-    /* a status set, and one refused */
-    CHECK(model_set_status(&r, 0x010205, 0x00) == 18);
-    CHECK(model_set_status(&r, 0x010204, 0x80) == 19);
-    CHECK(same_record(&r, &expected));
-    expected.statuses[1] = 0x01;
-    CHECK(model_set_status(&r, 0x010204, 0x01) == 0);
-    CHECK(same_record(&r, &expected));
-    CHECK(answered(&r, 0, BYTES(0x19, 0x08, 0xE0, 0x01), BYTES(0x59, 0x08, 0x7F, 0x20, 0xFF, 1, 2, 4, 0x01)));
-
-    /* an empty record, whatever stands in its free places */
-    r.count = expected.count = 0;
-    CHECK(answered(&r, 0, BYTES(0x19, 0x07, 0xFF, 0xFF), BYTES(0x59, 0x07, 0x7F, 0x03, 0x00, 0x00)));
-    CHECK(answered(&r, 0, BYTES(0x19, 0x08, 0xFF, 0xFF), BYTES(0x59, 0x08, 0x7F)));
-    CHECK(answered(&r, 1, BYTES(0x19, 0x07, 0x00, 0x00), BYTES(0x59, 0x07, 0x7F, 0x03, 0x00, 0x00)));
-    CHECK(answered(&r, 0, BYTES(0x14, 0xFF, 0xFF, 0xFF), BYTES(0x54)));
-    CHECK(same_record(&r, &expected));
-
-    /* any byte keeps the rules, at each place */
-    for (unsigned byte = 0; byte < 256; byte++) {
-        for (unsigned count = 0; count <= 63; count += 21) {
-            r = (model_record){.count = (uint8_t)count, .availability = 0x49};
-            for (unsigned i = 0; i < 63; i++) {
-                r.codes[i] = i;
-                r.statuses[i] = 0x08;
-                r.severities[i] = (uint8_t)(byte + i);
-                r.units[i] = (uint8_t)(byte + 4 * i);
-            }
-            expected = r;
-            CHECK(model_record_keeps_rules(&r));
-            CHECK(answered(&r, 0, BYTES(0x3E, 0x00), BYTES(0x7E, 0x00)));
-            CHECK(model_set_status(&r, 0, 0x40) == (count == 0 ? 18 : 0));
-            CHECK(answered(&r, 0, BYTES(0x14, 0xFF, 0xFF, 0xFF), BYTES(0x54)));
-            memset(expected.statuses, 0x40, count);
-            CHECK(same_record(&r, &expected));
-        }
-    }
-}
-
-/* The six bytes of each code with a bit of both masks, as the record has them in order; how many codes. */
-static unsigned recount(const model_record *r, uint8_t severity_mask, uint8_t status_mask, uint8_t *out)
-{
-    unsigned found = 0;
-    for (unsigned i = 0; i < r->count; i++) {
-        unsigned severity_bits = 0, status_bits = 0;
-        for (unsigned bit = 1; bit < 256; bit *= 2) {
-            severity_bits += (r->severities[i] & bit) == bit && (severity_mask & bit) == bit;
-            status_bits += (r->statuses[i] & bit) == bit && (status_mask & bit) == bit;
-        }
-        if (severity_bits > 0 && status_bits > 0) {
-            const uint8_t six[6] = {r->severities[i], r->units[i], (uint8_t)(r->codes[i] / 65536),
-                                    (uint8_t)(r->codes[i] / 256 % 256), (uint8_t)(r->codes[i] % 256), r->statuses[i]};
-            memcpy(out + 6 * found++, six, 6);
-        }
-    }
-    return found;
-}
-
-/* Both reports of two masks, silenced and not, physical and functional; how many codes match. */
-static unsigned check_severity(model_record *r, uint8_t severity_mask, uint8_t status_mask)
-{
-    const model_record start = *r;
-    uint8_t report[3 + 63 * 6] = {0x59, 0x08, r->availability};
-    const unsigned found = recount(r, severity_mask, status_mask, report + 3);
-    for (int is_functional = 0; is_functional < 2; is_functional++) {
-        CHECK(answered(r, is_functional, BYTES(0x19, 0x07, severity_mask, status_mask),
-                       BYTES(0x59, 0x07, r->availability, 0x03, 0x00, (uint8_t)found)));
-        CHECK(answered(r, is_functional, BYTES(0x19, 0x87, severity_mask, status_mask), SILENT));
-        if (found <= 42) {
-            CHECK(answered(r, is_functional, BYTES(0x19, 0x08, severity_mask, status_mask), report, 3 + 6 * found));
-            CHECK(answered(r, is_functional, BYTES(0x19, 0x88, severity_mask, status_mask), SILENT));
-        } else {
-            CHECK(answered(r, is_functional, BYTES(0x19, 0x08, severity_mask, status_mask), BYTES(0x7F, 0x19, 0x14)));
-            CHECK(answered(r, is_functional, BYTES(0x19, 0x88, severity_mask, status_mask), BYTES(0x7F, 0x19, 0x14)));
-        }
-    }
-    CHECK(same_record(r, &start));
-    return found;
-}
-
-/* Just so many codes, anywhere, have bit 7 of the severity and bit 3 of the status; the others have one of the two, or none. */
-static model_record severe_record(unsigned count, unsigned severe)
-{
-    model_record r = some_record();
-    r.count = (uint8_t)count;
-    uint32_t code = below(300000);
-    for (unsigned i = 0; i < count; i++) {
-        const int hit = below(count - i) < severe;
-        const uint32_t other = below(3);
-        severe -= (unsigned)hit;
-        r.codes[i] = code;
-        r.severities[i] = (uint8_t)(hit || other == 1 ? any() | 0x80u : any() & 0x7Fu);
-        r.statuses[i] = (uint8_t)((hit || other == 2 ? any() | 0x08u : any() & 0xF7u) & r.availability);
-        code += 1 + below(below(2) ? 3 : 250000);
-    }
-    return r;
-}
-
-static void test_severity_random(void)
-{
-    unsigned long found[64] = {0};
-    for (int turn = 0; turn < 60; turn++) {
-        for (unsigned severe = 0; severe <= 63; severe++) {
-            model_record r = severe_record(severe + below(64 - severe), severe);
-            CHECK(model_record_keeps_rules(&r));
-            CHECK(check_severity(&r, 0x80, 0x08) == severe);
-            found[check_severity(&r, (uint8_t)any(), (uint8_t)any())]++;
-            found[check_severity(&r, (uint8_t)(1u << below(8)), (uint8_t)(1u << below(8)))]++;
-            found[check_severity(&r, 0xFF, 0xFF)]++;
-        }
-    }
-    CHECK(found[0] > 100 && found[41] > 20 && found[42] > 20 && found[43] > 20 && found[44] > 20);
 }
 
 /* ---- count sheet --------------------------------------------------------------------------- */
@@ -3580,13 +3222,7 @@ int main(int argc, char **argv)
     test_trains();
     test_record_rules();
     test_server_worked();
-    test_severity_worked();
-    test_severity_masks();
-    test_severity_order();
-    test_severity_longest();
-    test_severity_stays();
     test_server_random();
-    test_severity_random();
     test_sheet();
     test_ranking_worked();
     test_ranking_random();

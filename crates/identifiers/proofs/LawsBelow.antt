@@ -1,19 +1,18 @@
 -- Laws of what is said of every index below a number: none yet, one more, what the whole says of each, and what the first is. One loop law for all loops.
-use mathlib.Core.Path.{◌≡◌, refl, sym, ap, ap₂, ◌∙◌}
+use mathlib.Core.Path.{◌≡◌, refl, sym, ap, ◌∙◌}
 use mathlib.Core.Bool.{Bool, true, false, false≢true, ◌&&◌}
-use mathlib.Core.List.{List, [], ◌∷◌, ◌++◌, append-nil}
+use mathlib.Core.List.{List, [], ◌++◌, append-nil}
 use mathlib.Core.Logic.{⊎_elim}
-use Prim.Native.Nat.{ℕ, zero, suc, ◌+◌, ◌*◌, ◌<◌, ◌≤◌}
-use native.Mathlib.Nat.{eq-or-lt_of_le, mul-one, mul-add}
+use Prim.Native.Nat.{ℕ, zero, suc, ◌+◌, ◌<◌, ◌≤◌}
+use native.Mathlib.Nat.{eq-or-lt_of_le}
 use native.Mathlib.Numerals.{add-one}
 use native.Mathlib.Omega.{arith}
 use borrow.Author.Tests.{ltb-true, ltb-false, le-ltb, lt-ltb}
 use lib.Dec.{ltb}
-use lib.ListN.{length, take, drop, length-append, length-drop, take-append-drop}
-use lib.Seq.{length-take-le, take_all, take-append-le, drop-append-le, drop_at}
+use lib.ListN.{length, length-append}
 use Rattle.identifiers.specs.Choice.{pick, both}
 use Rattle.identifiers.specs.Below.{all_below, count_below, list_below, first_below}
-use Rattle.identifiers.proofs.LawsChoice.{pick_true, both_false, both-swap, both_true, and_is}
+use Rattle.identifiers.proofs.LawsChoice.{both_false, both-swap, both_true, and_is}
 
 -- ---- all_below
 pub all_none : (p : ℕ → Bool) → all_below p 0 ≡ true
@@ -133,68 +132,6 @@ pub list-each : (f g : ℕ → List ℕ) (n : ℕ) → ((i : ℕ) → i < n → 
 unfolding list_below
 list-each f g zero h = refl
 list-each f g (suc n) h = rw (list-each f g n (λ i l. h i (omega arith)), h n (omega arith))
-
--- a part of the first of two lists
-part-front : (w k : ℕ) (a b : List ℕ) → k + w ≤ length a → take w (drop k (a ++ b)) ≡ take w (drop k a)
-part-front w k a b l = rw (drop-append-le k a b (omega arith)) (take-append-le w (drop k a) b (rw length-drop (omega arith)))
-
--- a list that has g i, of w bytes, for each i that has p, and nothing for the others
-module _ (p : ℕ → Bool) (g : ℕ → List ℕ) (w : ℕ) (wide : (i : ℕ) → length (g i) ≡ w) where
-  abbrev chosen : ℕ → List ℕ
-  chosen i = pick (p i) (g i) []
-
-  -- its length is w for each of them
-  pub length-chosen : (n : ℕ) → length (list_below chosen n) ≡ w * count_below p n
-  unfolding pick
-  length-chosen zero = rw (list-none, count_none) (omega arith)
-  length-chosen (suc n) = rw (list-suc, length-append, count-suc, length-chosen n) (by (p n))
-    where
-      by : (b : Bool) → w * count_below p n + length (pick b (g n) []) ≡ w * pick b (count_below p n + 1) (count_below p n)
-      by true = rw (wide n, mul-add, mul-one)
-      by false = omega arith
-
-  own : (i : ℕ) → p i ≡ true → chosen i ≡ g i
-  own i e = pick_true (g i) [] e
-
-  room : (i n : ℕ) → i < n → p i ≡ true → w * count_below p i + w ≤ w * count_below p n
-  room i n l e = omega (arith, wide i, ap length (own i e), length-chosen i, length-chosen n, length_more chosen i, length-mono chosen (i + 1) n (omega arith))
-
-  -- g i stands behind those of the i below it
-  pub chosen_at : (i n : ℕ) → i < n → p i ≡ true → take w (drop (w * count_below p i) (list_below chosen n)) ≡ g i
-  chosen_at i zero l e = absurd (omega arith)
-  chosen_at i (suc n) l e =
-      let k : ℕ = w * count_below p i in
-      rw list-suc
-      (⊎_elim (λ (q : i ≡ n). rw (drop_at (list_below chosen n) (chosen n) k (length-chosen n ∙ ap (λ (m : ℕ). w * count_below p m) (sym q)))
-      (ap (λ (m : ℕ). take w (chosen m)) (sym q) ∙ ap (take w) (own i e) ∙ take_all w (g i) (omega (arith, wide i))))
-      (λ (q : i < n). part-front w k (list_below chosen n) (chosen n) (rw length-chosen (room i n q e)) ∙ chosen_at i n q e) (eq-or-lt_of_le (omega arith)))
-
-  -- and no other list is so long and has these
-  pub chosen-only : (n : ℕ) (l : List ℕ) → length l ≡ w * count_below p n → ((i : ℕ) → i < n → p i ≡ true → take w (drop (w * count_below p i) l) ≡ g i) → l ≡ list_below chosen n
-  unfolding pick
-  chosen-only zero l e h = rw list-none (nothing l (rw count_none at e))
-    where
-      nothing : (l : List ℕ) → length l ≡ w * 0 → l ≡ []
-      nothing [] e = refl
-      nothing (a ∷ l) e = absurd (omega arith)
-  chosen-only (suc n) l e h = rw list-suc (by (p n) refl (λ m. chosen-only n m))
-    where
-      counted : {b : Bool} → p n ≡ b → length l ≡ w * pick b (count_below p n + 1) (count_below p n)
-      counted q = e ∙ ap (λ (k : ℕ). w * k) (count-suc p n ∙ ap (λ (b : Bool). pick b (count_below p n + 1) (count_below p n)) q)
-
-      by : (b : Bool) → p n ≡ b
-          → ((m : List ℕ) → length m ≡ w * count_below p n → ((i : ℕ) → i < n → p i ≡ true → take w (drop (w * count_below p i) m) ≡ g i) → m ≡ list_below chosen n)
-          → l ≡ list_below chosen n ++ pick b (g n) []
-      by false q shorter = shorter l (counted q) (λ i m. h i (omega arith)) ∙ sym (append-nil (list_below chosen n))
-      by true q shorter =
-          let at : ℕ = w * count_below p n in
-          let whole : length l ≡ at + w = counted q ∙ mul-add w (count_below p n) 1 ∙ ap (λ (k : ℕ). at + k) (mul-one w) in
-          let front : length (take at l) ≡ at = length-take-le at l (omega (arith, whole)) in
-          let last : drop at l ≡ g n = sym (take_all w (drop at l) (rw length-drop (omega (arith, whole)))) ∙ h n (omega arith) q in
-          let rest : take at l ≡ list_below chosen n =
-          shorter (take at l) front
-          (λ i m o. sym (part-front w (w * count_below p i) (take at l) (drop at l) (rw front (room i n m o))) ∙ ap (λ (x : List ℕ). take w (drop (w * count_below p i) x)) (take-append-drop at l) ∙ h i (omega arith) o) in
-          sym (take-append-drop at l) ∙ ap₂ ◌++◌ rest last
 
 -- ---- first_below
 pub first-none : (p : ℕ → Bool) → first_below p 0 ≡ 0

@@ -6,12 +6,11 @@ use crate::walk;
 use published_lines::*;
 use server::*;
 
-// Three fault codes with the statuses 08, 50 and 09 under the availability mask 7F, the severities 80, 20 and 40, the units 03, 02 and 06, and no datum.
+// Three fault codes with the statuses 08, 50 and 09 under the availability mask 7F, and no datum.
 pub fn faulty() -> TrailerRecord
     ensures { (take 3 result.codes ≡ 0x000001 ∷ 0x123456 ∷ 0xFFFFFE ∷ [])
         × ((take 3 result.statuses ≡ 0x08 ∷ 0x50 ∷ 0x09 ∷ [])
-        × ((result.count ≡ 3) × ((result.availability ≡ 0x7F) × ((result.held ≡ 0)
-        × ((take 3 result.severities ≡ 0x80 ∷ 0x20 ∷ 0x40 ∷ []) × (take 3 result.units ≡ 0x03 ∷ 0x02 ∷ 0x06 ∷ [])))))) }
+        × ((result.count ≡ 3) × ((result.availability ≡ 0x7F) × (result.held ≡ 0)))) }
 {
     let mut record = TrailerRecord {
         codes: [0; 63],
@@ -22,8 +21,6 @@ pub fn faulty() -> TrailerRecord
         lengths: [0; 16],
         bytes: [0; 512],
         held: 0,
-        severities: [0; 63],
-        units: [0; 63],
     };
     record.codes[0] = 0x000001;
     record.codes[1] = 0x123456;
@@ -31,12 +28,6 @@ pub fn faulty() -> TrailerRecord
     record.statuses[0] = 0x08;
     record.statuses[1] = 0x50;
     record.statuses[2] = 0x09;
-    record.severities[0] = 0x80;
-    record.severities[1] = 0x20;
-    record.severities[2] = 0x40;
-    record.units[0] = 0x03;
-    record.units[1] = 0x02;
-    record.units[2] = 0x06;
     record
 }
 
@@ -70,14 +61,12 @@ pub fn asked(record: TrailerRecord, request: &[u8], functional: bool) -> Trailer
     after
 }
 
-// A request: functional, physical, or one that clears, and behind that the report of all codes, and of all with their severities.
+// A request: functional, physical, or one that clears, and behind that the report of all codes.
 pub fn ask(record: TrailerRecord, letter: u8, case: &[u8]) {
     let after = asked(record, part(case, b';', 0), letter == b'f');
     if letter == b'c' {
         say(b"and then, 19 0A:");
         asked(after, b"\x19\x0A", false);
-        say(b"and then, 19 08 FF FF:");
-        asked(after, b"\x19\x08\xFF\xFF", false);
     }
 }
 
@@ -121,7 +110,7 @@ pub fn kept(record: TrailerRecord, case: &[u8]) {
     }
 }
 
-// Codes 0, 1, .. 62, each with the status 08; of their severities A9, A8, .. 6B the first 42 have bit 7, and then one more.
+// Codes 0, 1, .. 62, each with the status 08.
 fn codes() {
     let mut record = faulty();
     record.count = 63;
@@ -129,7 +118,6 @@ fn codes() {
     let mut i = 0;
     while i < 63 {
         record.codes[i] = i as u32;
-        record.severities[i] = 169 - i as u8;
         i += 1;
     }
     walk(
@@ -138,16 +126,6 @@ fn codes() {
 kept;record, #: |63 codes|64 codes;n;40|code FFFFFE;c;FFFFFE|code FFFFFF;c;FFFFFF|a code twice;c;3D|a free place;c;3D;n;3E|\
 a status of the mask;c;3D;n;3E;s;7F|a status outside the mask;c;3D;n;3E;s;80|mask 7E;c;3D;n;3E;s;00;a;7E|
 ask;63 codes,$:|\x19\x01\x08|\x19\x02\x08|\x19\x0A|
-ask;42 severe codes of 63,$:|\x19\x07\x80\x08|\x19\x08\x80\x08|\x19\x88\x80\x08|
-functional;42 severe codes of 63, functional,$:|\x19\x08\x80\x08|\x19\x88\x80\x08|
-",
-    );
-    record.severities[42] = 0x80;
-    walk(
-        record,
-        b"
-ask;43 severe codes of 63,$:|\x19\x07\x80\x08|\x19\x08\x80\x08|\x19\x88\x80\x08|
-functional;43 severe codes of 63, functional,$:|\x19\x08\x80\x08|\x19\x88\x80\x08|
 ",
     );
 }

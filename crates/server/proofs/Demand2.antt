@@ -17,7 +17,7 @@ use Rattle.server.specs.Trailer.{status_within, sound_record, with_statuses}
 use Rattle.server.specs.Faults.{cleared_of}
 use Rattle.server.specs.Requests.{service_of, group_of, request_of}
 use Rattle.server.specs.Silence.{silent_on}
-use Rattle.server.specs.Forms.{Reads, unknown_service, too_short, unknown_sub_function, wrong_length, clear_group, count_by_mask, list_by_mask, list_all, count_by_severity, list_by_severity, read_data, tester_present}
+use Rattle.server.specs.Forms.{Reads, unknown_service, too_short, unknown_sub_function, wrong_length, clear_group, count_by_mask, list_by_mask, list_all, read_data, tester_present}
 use Rattle.server.specs.Server.{negative_of, positive_of, changed_by, wrong_lengths, Effect, effect, served_of}
 use Rattle.server.specs.Status.{Setting, setting_of}
 use Rattle.server.specs.declared.trailer.TrailerRecord.{TrailerRecord}
@@ -124,8 +124,6 @@ module _ (t : TrailerRecord) (request : List ℕ) (functional : Bool) (response 
   changed (count_by_mask s u n) e = inl (after_is e)
   changed (list_by_mask s u n) e = inl (after_is e)
   changed (list_all s u n) e = inl (after_is e)
-  changed (count_by_severity s u n) e = inl (after_is e)
-  changed (list_by_severity s u n) e = inl (after_is e)
   changed (read_data s l o) e = inl (after_is e)
   changed (tester_present s u n) e = inl (after_is e)
 
@@ -160,8 +158,6 @@ module _ (t : TrailerRecord) (request : List ℕ) (functional : Bool) (response 
   first_byte (count_by_mask s u n) e = sym (ap (λ (x : ℕ). x + 0x40) s)
   first_byte (list_by_mask s u n) e = sym (ap (λ (x : ℕ). x + 0x40) s)
   first_byte (list_all s u n) e = sym (ap (λ (x : ℕ). x + 0x40) s)
-  first_byte (count_by_severity s u n) e = sym (ap (λ (x : ℕ). x + 0x40) s)
-  first_byte (list_by_severity s u n) e = sym (ap (λ (x : ℕ). x + 0x40) s)
   first_byte (read_data s l o) e = sym (ap (λ (x : ℕ). x + 0x40) s)
   first_byte (tester_present s u n) e = sym (ap (λ (x : ℕ). x + 0x40) s)
 

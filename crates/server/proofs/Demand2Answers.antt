@@ -20,7 +20,7 @@ use Rattle.server.specs.declared.trailer.TrailerRecord.{TrailerRecord}
 use Rattle.server.specs.declared.serving.Reply.TheVariants.{Sent}
 use Rattle.server.proofs.LawsPlaces.{held_at}
 use Rattle.server.proofs.LawsTrailer.{sound-has, length-within}
-use Rattle.server.proofs.LawsFaults.{length-report, count-listed-le}
+use Rattle.server.proofs.LawsFaults.{length-report}
 use Rattle.server.proofs.LawsDataIdentifiers.{length-data}
 use Rattle.server.proofs.LawsServer.{content-fits}
 use Rattle.server.proofs.LawsAnswers.{count-bytes, all-counted, data-answers, answered-sent, answered-silent}
@@ -42,7 +42,7 @@ module _ (t : TrailerRecord) (sound : sound_record t ≡ true) (functional : Boo
   unfolding negative_of silenced changed_by positive_of two_bytes
   count-answered mask =
       answered-sent t sound functional response room _ (count_by_mask refl refl refl) (omega arith) (omega arith) refl refl refl
-      ∙ ap (λ (l : List ℕ). effect t (Sent 6) (written response 0 (0x59 ∷ 0x01 ∷ t.availability ∷ 0x03 ∷ l))) (count-bytes (count_listed t false mask) (omega (arith, few, count-listed-le t false mask)))
+      ∙ ap (λ (l : List ℕ). effect t (Sent 6) (written response 0 (0x59 ∷ 0x01 ∷ t.availability ∷ 0x03 ∷ l))) (count-bytes t mask few)
 
   -- "19 02 mask, length 3: `59 02`, availability, then code and status of each match, in order"
   pub report-answered : (mask : ℕ)

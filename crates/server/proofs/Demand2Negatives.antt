@@ -13,7 +13,7 @@ use Rattle.identifiers.proofs.LawsBytes.{take-written}
 use Rattle.server.specs.Trailer.{sound_record}
 use Rattle.server.specs.Requests.{service_of, request_of}
 use Rattle.server.specs.Silence.{quiet_code}
-use Rattle.server.specs.Forms.{UnknownService, TooShort, UnknownSubFunction, WrongLength, Reads, unknown_service, too_short, unknown_sub_function, wrong_length, clear_group, count_by_mask, list_by_mask, list_all, count_by_severity, list_by_severity, read_data, tester_present}
+use Rattle.server.specs.Forms.{UnknownService, TooShort, UnknownSubFunction, WrongLength, Reads, unknown_service, too_short, unknown_sub_function, wrong_length, clear_group, count_by_mask, list_by_mask, list_all, read_data, tester_present}
 use Rattle.server.specs.Server.{negative_of, positive_of, Effect, effect, served_of}
 use Rattle.server.specs.Negatives.{NotHeld, TooLong, negative_sent, nothing_sent}
 use Rattle.server.specs.declared.trailer.TrailerRecord.{TrailerRecord}
@@ -70,7 +70,7 @@ module _ (t : TrailerRecord) (q : List ℕ) where
   pub negative-31 : (negative_of t (request_of q) q ≡ 0x31) ↔ NotHeld t q
   negative-31 = (λ e. why-31 (why t q e), due-31 t q)
 
-  -- "Over 255 bytes: 14", and "43 answer 14" of report 08: reports 02 and 0A never are, as 63 codes are 3 + 4 * 63 = 255 bytes
+  -- "Over 255 bytes: 14": a report of 19 never is, as 63 codes are 3 + 4 * 63 = 255 bytes
   pub negative-14 : sound_record t ≡ true → (negative_of t (request_of q) q ≡ 0x14) ↔ TooLong t q
   negative-14 h = (λ e. why-14 h (why t q e), due-14 t q)
 
@@ -89,8 +89,6 @@ not-7F t q (clear_group s n) e z = omega arith
 not-7F t q (count_by_mask s u n) e z = omega arith
 not-7F t q (list_by_mask s u n) e z = omega arith
 not-7F t q (list_all s u n) e z = omega arith
-not-7F t q (count_by_severity s u n) e z = omega arith
-not-7F t q (list_by_severity s u n) e z = omega arith
 not-7F t q (read_data s l o) e z = omega arith
 not-7F t q (tester_present s u n) e z = omega arith
 

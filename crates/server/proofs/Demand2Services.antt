@@ -34,7 +34,7 @@ unfolding reported listed either pick
 all_listed t mask i = refl
 
 -- ---- a mask bit outside the availability never matters
-pub same-match : (availability mask status : ℕ) → status_within availability status ≡ true → listed false mask status ≡ listed false (bit_and mask availability) status
+same-match : (availability mask status : ℕ) → status_within availability status ≡ true → listed false mask status ≡ listed false (bit_and mask availability) status
 unfolding status_within listed either matches
 same-match availability mask status e =
     ap (λ (x : ℕ). not (eqb x 0))

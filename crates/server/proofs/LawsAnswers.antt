@@ -19,21 +19,22 @@ use Rattle.server.specs.declared.trailer.TrailerRecord.{TrailerRecord}
 use Rattle.server.specs.declared.requests.Request.{Request}
 use Rattle.server.specs.declared.serving.Reply.TheVariants.{Silent, Sent}
 use Rattle.server.proofs.LawsPlaces.{held_at}
+use Rattle.server.proofs.LawsFaults.{count-listed-le}
 use Rattle.server.proofs.LawsDataIdentifiers.{answer-hit}
 use Rattle.server.proofs.LawsRequests.{reads-exactly}
 use Rattle.server.proofs.LawsSilence.{silent-positive}
 use Rattle.server.proofs.LawsServer.{lengths-right, served-silent, served-positive}
 
 -- ---- the bytes
--- of at most 63 codes, so the high one is 0
-pub count-bytes : (n : ℕ) → n ≤ 63 → two_bytes n ≡ 0x00 ∷ n ∷ []
-unfolding two_bytes
-count-bytes n l =
-    let high : n / 256 % 256 ≡ 0x00 = omega arith in
-    let low : n % 256 ≡ n = omega arith in
-    rw (high, low)
-
 module _ (t : TrailerRecord) where
+  pub count-bytes : (mask : ℕ) → t.count ≤ 63 → two_bytes (count_listed t false mask) ≡ 0x00 ∷ count_listed t false mask ∷ []
+  unfolding two_bytes
+  count-bytes mask l =
+      let few = count-listed-le t false mask in
+      let high : count_listed t false mask / 256 % 256 ≡ 0x00 = omega arith in
+      let low : count_listed t false mask % 256 ≡ count_listed t false mask = omega arith in
+      rw (high, low)
+
   pub all-counted : count_listed t true 0 ≡ t.count
   unfolding count_listed listed either
   all-counted = count-all _ t.count (λ i l. refl)

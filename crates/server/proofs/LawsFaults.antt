@@ -9,10 +9,11 @@ use native.Mathlib.Numerals.{add-one}
 use native.Mathlib.Omega.{arith}
 use borrow.Author.Tests.{eqb-false, ne_eqb, not-true}
 use lib.Bits.{bit_and}
-use lib.ListN.{set, length}
+use lib.ListN.{get_or, set, length, length-append}
 use Rattle.identifiers.specs.Choice.{pick}
+use Rattle.identifiers.specs.Below.{count_below, list_below}
 use Rattle.identifiers.proofs.LawsChoice.{taken, pick-false}
-use Rattle.identifiers.proofs.LawsBelow.{count-le, length-chosen}
+use Rattle.identifiers.proofs.LawsBelow.{count_none, count-suc, count-le, list-none, list-suc}
 use Rattle.server.specs.Faults.{matches, listed, count_listed, code_and_status, reported, report_of, stored_below}
 use Rattle.server.specs.declared.trailer.TrailerRecord.{TrailerRecord}
 
@@ -30,9 +31,22 @@ unfolding reported
 reported-miss all mask code status e = pick-false _ _ e
 
 -- a report has four bytes for each code that is listed
+four : (all : Bool) (mask code status m : ℕ) → 4 * m + length (reported all mask code status) ≡ 4 * pick (listed all mask status) (m + 1) m
+unfolding reported code_and_status pick
+four all mask code status m = by (listed all mask status)
+  where
+    by : (b : Bool) → 4 * m + length (pick b (code_and_status code status) []) ≡ 4 * pick b (m + 1) m
+    by true = omega arith
+    by false = omega arith
+
+length-below : (codes statuses : List ℕ) (all : Bool) (mask n : ℕ)
+    → length (list_below (λ i. reported all mask (get_or codes i 0) (get_or statuses i 0)) n) ≡ 4 * count_below (λ i. listed all mask (get_or statuses i 0)) n
+length-below codes statuses all mask zero = rw (list-none, count_none)
+length-below codes statuses all mask (suc n) = rw (list-suc, count-suc, length-append, length-below codes statuses all mask n) (four _ _ _ _ _)
+
 pub length-report : (t : TrailerRecord) (all : Bool) (mask : ℕ) → length (report_of t all mask) ≡ 4 * count_listed t all mask
-unfolding report_of count_listed reported code_and_status
-length-report t all mask = length-chosen _ _ 4 (λ i. refl) t.count
+unfolding report_of count_listed
+length-report t all mask = length-below t.codes t.statuses all mask t.count
 
 pub count-listed-le : (t : TrailerRecord) (all : Bool) (mask : ℕ) → count_listed t all mask ≤ t.count
 unfolding count_listed

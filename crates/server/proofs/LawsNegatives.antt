@@ -3,7 +3,7 @@ use mathlib.Core.Path.{◌≡◌, refl, sym, ap, subst, ◌∙◌}
 use mathlib.Core.Bool.{Bool, true, false}
 use mathlib.Core.List.{List}
 use mathlib.Core.Logic.{◌≢◌}
-use Prim.Native.Nat.{ℕ, ◌+◌, ◌*◌, ◌%◌, ◌^◌, ◌≤◌}
+use Prim.Native.Nat.{ℕ, ◌+◌, ◌*◌, ◌%◌, ◌≤◌}
 use native.Mathlib.Omega.{arith}
 use borrow.Author.Tests.{eqb-false, ne_eqb, ltb-true, lt-ltb}
 use lib.Dec.{eqb, ltb}
@@ -12,14 +12,12 @@ use Rattle.identifiers.specs.Choice.{either}
 use Rattle.identifiers.proofs.LawsChoice.{pick_true, pick-false, either-false}
 use Rattle.server.specs.Trailer.{sound_record}
 use Rattle.server.specs.Faults.{report_of, group_held}
-use Rattle.server.specs.Severity.{severe_report}
 use Rattle.server.specs.DataIdentifiers.{asked_count, asked_at, answers_of}
 use Rattle.server.specs.Requests.{request_of}
-use Rattle.server.specs.Forms.{UnknownService, TooShort, UnknownSubFunction, WrongLength, Reads, unknown_service, too_short, unknown_sub_function, wrong_length, clear_group, count_by_mask, list_by_mask, list_all, count_by_severity, list_by_severity, read_data, tester_present}
-use Rattle.server.specs.Server.{content_of_14, content_of_19, content_of_1908, content_of_22, negative_of}
-use Rattle.server.specs.Negatives.{NotHeld, no_code, no_identifier, TooLong, over_255, over_255_of_08}
+use Rattle.server.specs.Forms.{UnknownService, TooShort, UnknownSubFunction, WrongLength, Reads, unknown_service, too_short, unknown_sub_function, wrong_length, clear_group, count_by_mask, list_by_mask, list_all, read_data, tester_present}
+use Rattle.server.specs.Server.{content_of_14, content_of_19, content_of_22, negative_of}
+use Rattle.server.specs.Negatives.{NotHeld, no_code, no_identifier, TooLong, over_255}
 use Rattle.server.specs.declared.trailer.TrailerRecord.{TrailerRecord}
-use Rattle.server.specs.declared.severity.Masks.{Masks}
 use Rattle.server.specs.declared.requests.Request.{Request}
 use Rattle.server.proofs.LawsPlaces.{not-held, held-nowhere}
 use Rattle.server.proofs.LawsTrailer.{sound-has}
@@ -55,11 +53,10 @@ module _ (t : TrailerRecord) (q : List ℕ) where
       by-reading (read_data s l o) ∙ none-held-31 t q (λ j b. held-nowhere t.identifiers t.held _ (λ k r e. h j k (omega arith) r (e ∙ ap (λ (i : ℕ). get_or q (1 + 2 * j) 0 * 256 + get_or q i 0) (omega arith))))
 
   pub due-14 : TooLong t q → negative_of t (request_of q) q ≡ 0x14
-  unfolding negative_of content_of_1908 content_of_22
+  unfolding negative_of content_of_22
   due-14 (over_255 s l o h) = by-reading (read_data s l o) ∙ pick-false _ _ (ne_eqb (length (answers_of t q)) 0 (λ z. omega arith)) ∙ pick_true _ _ (lt-ltb _ _ h)
-  due-14 (over_255_of_08 s u n h) = by-reading (list_by_severity s u n) ∙ pick_true _ _ (lt-ltb _ _ h)
 
--- ---- why a request has its code: 0 where there is none; a report 02 or 0A is too long only where the record does not keep its rules
+-- ---- why a request has its code: 0 where there is none; a report is too long only where the record does not keep its rules
 pub data Why (t : TrailerRecord) (q : List ℕ) : ℕ → Type 0 where
   form-11 : UnknownService q → Why t q 0x11
   form-13-first : TooShort q → Why t q 0x13
@@ -85,7 +82,7 @@ module _ (t : TrailerRecord) (q : List ℕ) where
       by true h = at (pick_true _ _ h) none
       by false h = let e = either-false _ _ h in at (pick-false _ _ h) (content-31 (no_code s n (eqb-false _ _ e.0) (not-held _ _ _ e.1)))
 
-  -- a report 02 or 0A has at most 255 bytes in a record that keeps its rules
+  -- a report has at most 255 bytes in a record that keeps its rules
   of-report : (all : Bool) (mask : ℕ) → Why t q (content_of_19 t all mask)
   unfolding content_of_19
   of-report all mask = by (ltb 255 (3 + length (report_of t all mask))) refl
@@ -93,17 +90,6 @@ module _ (t : TrailerRecord) (q : List ℕ) where
       by : (b : Bool) → ltb 255 (3 + length (report_of t all mask)) ≡ b → Why t q (content_of_19 t all mask)
       by false l = at (pick-false _ _ l) none
       by true l = at (pick_true _ _ l) (report-14 (λ h. omega (arith, sym (pick_true 0x14 0 l) ∙ content-fits t all mask (sound-has t h).count)))
-
-  abbrev masks : Masks
-  masks = record { severity = get_or q 2 0; status = get_or q 3 0 }
-
-  of-severe : get_or q 0 0 ≡ 0x19 → get_or q 1 0 % 2 ^ 7 ≡ 0x08 → length q ≡ 4 → Why t q (content_of_1908 t masks)
-  unfolding content_of_1908
-  of-severe s u n = by (ltb 255 (3 + length (severe_report t masks))) refl
-    where
-      by : (b : Bool) → ltb 255 (3 + length (severe_report t masks)) ≡ b → Why t q (content_of_1908 t masks)
-      by false l = at (pick-false _ _ l) none
-      by true l = at (pick_true _ _ l) (content-14 (over_255_of_08 s u n (ltb-true _ _ l)))
 
   of-data : get_or q 0 0 ≡ 0x22 → 3 ≤ length q → length q % 2 ≡ 1 → Why t q (content_of_22 t q)
   unfolding content_of_22 asked_count asked_at
@@ -126,8 +112,6 @@ module _ (t : TrailerRecord) (q : List ℕ) where
   of-reading (count_by_mask s u n) = none
   of-reading (list_by_mask s u n) = of-report false (get_or q 2 0)
   of-reading (list_all s u n) = of-report true 0
-  of-reading (count_by_severity s u n) = none
-  of-reading (list_by_severity s u n) = of-severe s u n
   of-reading (read_data s l o) = of-data s l o
   of-reading (tester_present s u n) = none
 

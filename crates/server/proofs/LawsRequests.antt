@@ -9,9 +9,9 @@ use borrow.Author.Tests.{eq-eqb, ne_eqb, lt-ltb, le-ltb, le-leb, lt-leb, eqb-tru
 use lib.Dec.{eqb, ltb, leb}
 use lib.ListN.{get_or, length}
 use Rattle.identifiers.specs.Choice.{pick, both}
-use Rattle.server.specs.Requests.{service_of, sub_function_of, silencing, mask_of, masks_of, group_of, sized, form_of_14, form_of_19, form_of_22, form_of_3e, request_by, request_of}
-use Rattle.server.specs.Forms.{no_service, short_19, short_3e, unknown_19, unknown_3e, WrongLength, not_4, not_3_of_01, not_3_of_02, not_2_of_0a, not_4_of_07, not_4_of_08, under_3, even}
-use Rattle.server.specs.Forms.{not_2_of_00, Reads, unknown_service, too_short, unknown_sub_function, wrong_length, clear_group, count_by_mask, list_by_mask, list_all, count_by_severity, list_by_severity, read_data, tester_present}
+use Rattle.server.specs.Requests.{service_of, sub_function_of, silencing, mask_of, group_of, sized, form_of_14, form_of_19, form_of_22, form_of_3e, request_by, request_of}
+use Rattle.server.specs.Forms.{no_service, short_19, short_3e, unknown_19, unknown_3e, WrongLength, not_4, not_3_of_01, not_3_of_02, not_2_of_0a, under_3, even}
+use Rattle.server.specs.Forms.{not_2_of_00, Reads, unknown_service, too_short, unknown_sub_function, wrong_length, clear_group, count_by_mask, list_by_mask, list_all, read_data, tester_present}
 use Rattle.server.specs.declared.requests.Request.{Request}
 
 module _ (q : List ℕ) where
@@ -26,8 +26,6 @@ module _ (q : List ℕ) where
   wrong-read (not_3_of_01 s l u n) = let v : get_or q 1 0 % 128 ≡ 0x01 = u in read_at s ∙ rw (le-ltb (length q) 2 l, v, ne_eqb (length q) 3 n)
   wrong-read (not_3_of_02 s l u n) = let v : get_or q 1 0 % 128 ≡ 0x02 = u in read_at s ∙ rw (le-ltb (length q) 2 l, v, ne_eqb (length q) 3 n)
   wrong-read (not_2_of_0a s l u n) = let v : get_or q 1 0 % 128 ≡ 0x0A = u in read_at s ∙ rw (le-ltb (length q) 2 l, v, ne_eqb (length q) 2 n)
-  wrong-read (not_4_of_07 s l u n) = let v : get_or q 1 0 % 128 ≡ 0x07 = u in read_at s ∙ rw (le-ltb (length q) 2 l, v, ne_eqb (length q) 4 n)
-  wrong-read (not_4_of_08 s l u n) = let v : get_or q 1 0 % 128 ≡ 0x08 = u in read_at s ∙ rw (le-ltb (length q) 2 l, v, ne_eqb (length q) 4 n)
   wrong-read (under_3 s l) = read_at s ∙ rw (lt-leb 3 (length q) l)
   wrong-read (even s e) = read_at s ∙ rw e (off (leb 3 (length q)))
     where
@@ -37,20 +35,17 @@ module _ (q : List ℕ) where
   wrong-read (not_2_of_00 s l u n) = let v : get_or q 1 0 % 128 ≡ 0x00 = u in read_at s ∙ rw (le-ltb (length q) 2 l, v, ne_eqb (length q) 2 n)
 
   read_as : {r : Request} → Reads q r → request_of q ≡ r
-  unfolding request_by form_of_14 form_of_19 form_of_22 form_of_3e sub_function_of silencing mask_of masks_of group_of sized pick both
+  unfolding request_by form_of_14 form_of_19 form_of_22 form_of_3e sub_function_of silencing mask_of group_of sized pick both
   read_as (clear_group s n) = read_at s ∙ rw (eq-eqb (length q) 4 n)
   read_as (count_by_mask s u n) = let v : get_or q 1 0 % 128 ≡ 0x01 = u in read_at s ∙ rw (n, v)
   read_as (list_by_mask s u n) = let v : get_or q 1 0 % 128 ≡ 0x02 = u in read_at s ∙ rw (n, v)
   read_as (list_all s u n) = let v : get_or q 1 0 % 128 ≡ 0x0A = u in read_at s ∙ rw (n, v)
-  read_as (count_by_severity s u n) = let v : get_or q 1 0 % 128 ≡ 0x07 = u in read_at s ∙ rw (n, v)
-  read_as (list_by_severity s u n) = let v : get_or q 1 0 % 128 ≡ 0x08 = u in read_at s ∙ rw (n, v)
   read_as (read_data s l o) = read_at s ∙ rw (le-leb 3 (length q) l, o)
   read_as (tester_present s u n) = let v : get_or q 1 0 % 128 ≡ 0x00 = u in read_at s ∙ rw (n, v)
   read_as (unknown_service (no_service a b c d)) = read_at refl ∙ rw (ne_eqb (get_or q 0 0) 0x14 a, ne_eqb (get_or q 0 0) 0x19 b, ne_eqb (get_or q 0 0) 0x22 c, ne_eqb (get_or q 0 0) 0x3E d)
   read_as (too_short (short_19 s l)) = read_at s ∙ rw (lt-ltb (length q) 2 l)
   read_as (too_short (short_3e s l)) = read_at s ∙ rw (lt-ltb (length q) 2 l)
-  read_as (unknown_sub_function (unknown_19 s l a b c d e)) =
-      read_at s ∙ rw (le-ltb (length q) 2 l, ne_eqb (get_or q 1 0 % 128) 0x01 a, ne_eqb (get_or q 1 0 % 128) 0x02 b, ne_eqb (get_or q 1 0 % 128) 0x0A c, ne_eqb (get_or q 1 0 % 128) 0x07 d, ne_eqb (get_or q 1 0 % 128) 0x08 e)
+  read_as (unknown_sub_function (unknown_19 s l a b c)) = read_at s ∙ rw (le-ltb (length q) 2 l, ne_eqb (get_or q 1 0 % 128) 0x01 a, ne_eqb (get_or q 1 0 % 128) 0x02 b, ne_eqb (get_or q 1 0 % 128) 0x0A c)
   read_as (unknown_sub_function (unknown_3e s l a)) = read_at s ∙ rw (le-ltb (length q) 2 l, ne_eqb (get_or q 1 0 % 128) 0x00 a)
   read_as (wrong_length w) = wrong-read w
 
@@ -83,9 +78,7 @@ module _ (q : List ℕ) where
       below (length q) 2 (λ l. so (too_short (short_19 s l)))
       (λ l. equal (get_or q 1 0 % 2 ^ 7) 0x01 (λ u. sized-as 3 (count_by_mask s u) (not_3_of_01 s l u))
       (λ a. equal (get_or q 1 0 % 2 ^ 7) 0x02 (λ u. sized-as 3 (list_by_mask s u) (not_3_of_02 s l u))
-      (λ b. equal (get_or q 1 0 % 2 ^ 7) 0x0A (λ u. sized-as 2 (list_all s u) (not_2_of_0a s l u))
-      (λ c. equal (get_or q 1 0 % 2 ^ 7) 0x07 (λ u. sized-as 4 (count_by_severity s u) (not_4_of_07 s l u))
-      (λ d. equal (get_or q 1 0 % 2 ^ 7) 0x08 (λ u. sized-as 4 (list_by_severity s u) (not_4_of_08 s l u)) (λ e. so (unknown_sub_function (unknown_19 s l a b c d e))))))))
+      (λ b. equal (get_or q 1 0 % 2 ^ 7) 0x0A (λ u. sized-as 2 (list_all s u) (not_2_of_0a s l u)) (λ c. so (unknown_sub_function (unknown_19 s l a b c))))))
 
   of-22 : get_or q 0 0 ≡ 0x22 → Reads q (request_of q)
   of-22 s =

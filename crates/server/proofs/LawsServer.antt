@@ -5,21 +5,19 @@ use mathlib.Core.List.{List, [], ◌∷◌}
 use Prim.Native.Nat.{ℕ, ◌+◌, ◌≤◌, ◌<◌}
 use native.Mathlib.Omega.{arith}
 use borrow.Author.Tests.{eq-eqb, ne_eqb, eqb-true, eqb-false, ltb-false, le-ltb, not-false}
-use lib.Dec.{eqb, ltb}
+use lib.Dec.{eqb}
 use lib.ListN.{length}
-use Rattle.identifiers.specs.Choice.{pick, either}
+use Rattle.identifiers.specs.Choice.{either}
 use Rattle.identifiers.specs.Bytes.{written}
 use Rattle.identifiers.specs.Refusals.{refusal}
 use Rattle.identifiers.proofs.LawsChoice.{pick_true, pick-false, was-passed, either-false}
 use Rattle.server.specs.Trailer.{sound_record}
 use Rattle.server.specs.Faults.{two_bytes, report_of}
-use Rattle.server.specs.Severity.{severe_report}
 use Rattle.server.specs.DataIdentifiers.{answers_of}
 use Rattle.server.specs.Requests.{service_of, request_of}
 use Rattle.server.specs.Silence.{silent_on}
-use Rattle.server.specs.Server.{content_of_19, content_of_1908, content_of_22, negative_of, negative_bytes, positive_of, changed_by, wrong_lengths, effect, answered, served_of}
+use Rattle.server.specs.Server.{content_of_19, content_of_22, negative_of, negative_bytes, positive_of, changed_by, wrong_lengths, effect, answered, served_of}
 use Rattle.server.specs.declared.trailer.TrailerRecord.{TrailerRecord}
-use Rattle.server.specs.declared.severity.Masks.{Masks}
 use Rattle.server.specs.declared.requests.Request.{Request}
 use Rattle.server.specs.declared.serving.Reply.{Reply}
 use Rattle.server.specs.declared.serving.Reply.TheVariants.{Refused, Silent, Sent}
@@ -29,10 +27,6 @@ use Rattle.server.proofs.LawsFaults.{length-report, count-listed-le}
 some : {n : ℕ} → 0 < n → n ≡ 0 → ⊥
 some l e = omega arith
 
--- a report that is not too long
-fits-report : (report : List ℕ) → ◌≡◌ {A = ℕ} (pick (ltb 255 (3 + length report)) 0x14 0) 0 → 3 + length report ≤ 255
-fits-report report e = ltb-false _ _ (was-passed _ _ _ _ (some (omega arith)) e).0
-
 module _ (t : TrailerRecord) where
   -- a report of at most 63 codes never passes 255 bytes
   pub content-fits : (all : Bool) (mask : ℕ) → t.count ≤ 63 → content_of_19 t all mask ≡ 0
@@ -41,11 +35,7 @@ module _ (t : TrailerRecord) where
 
   fits-19 : (all : Bool) (mask : ℕ) → content_of_19 t all mask ≡ 0 → 3 + length (report_of t all mask) ≤ 255
   unfolding content_of_19
-  fits-19 all mask e = fits-report (report_of t all mask) e
-
-  pub fits-1908 : (masks : Masks) → content_of_1908 t masks ≡ 0 → 3 + length (severe_report t masks) ≤ 255
-  unfolding content_of_1908
-  fits-1908 masks e = fits-report (severe_report t masks) e
+  fits-19 all mask e = ltb-false _ _ (was-passed _ _ _ _ (some (omega arith)) e).0
 
   pub fits-22 : (request : List ℕ) → content_of_22 t request ≡ 0 → 1 + length (answers_of t request) ≤ 255
   unfolding content_of_22
@@ -62,8 +52,6 @@ module _ (t : TrailerRecord) where
   positive-length (Request.CountByMask silent mask) request e = (omega arith, omega arith)
   positive-length (Request.ListByMask silent mask) request e = (omega arith, omega (arith, fits-19 false mask e))
   positive-length (Request.ListAll silent) request e = (omega arith, omega (arith, fits-19 true 0 e))
-  positive-length (Request.CountBySeverity silent masks) request e = (omega arith, omega arith)
-  positive-length (Request.ListBySeverity silent masks) request e = (omega arith, omega (arith, fits-1908 masks e))
   positive-length Request.ReadData request e = (omega arith, omega (arith, fits-22 request e))
   positive-length (Request.TesterPresent silent) request e = (omega arith, omega arith)
 

@@ -4,7 +4,6 @@ pub mod LawsMask
 pub mod LawsTrailer
 pub mod LawsRules
 pub mod LawsFaults
-pub mod LawsSeverity
 pub mod LawsDataIdentifiers
 pub mod LawsRequests
 pub mod LawsServer
@@ -17,5 +16,3 @@ pub mod LawsNegatives
 pub mod LawsAnswers
 pub mod Demand2Answers
 pub mod Demand2Negatives
-pub mod Demand2Severity
-pub mod Demand2Apart

@@ -13,19 +13,16 @@ pub data TooShort (q : List ℕ) : Type 0 where
 
 -- 12: "sub-function (low seven bits) unknown 12"
 pub data UnknownSubFunction (q : List ℕ) : Type 0 where
-  unknown_19 : get_or q 0 0 ≡ 0x19 → 2 ≤ length q → get_or q 1 0 % 2 ^ 7 ≢ 0x01 → get_or q 1 0 % 2 ^ 7 ≢ 0x02 → get_or q 1 0 % 2 ^ 7 ≢ 0x0A
-      → get_or q 1 0 % 2 ^ 7 ≢ 0x07 → get_or q 1 0 % 2 ^ 7 ≢ 0x08 → UnknownSubFunction q
+  unknown_19 : get_or q 0 0 ≡ 0x19 → 2 ≤ length q → get_or q 1 0 % 2 ^ 7 ≢ 0x01 → get_or q 1 0 % 2 ^ 7 ≢ 0x02 → get_or q 1 0 % 2 ^ 7 ≢ 0x0A → UnknownSubFunction q
   unknown_3e : get_or q 0 0 ≡ 0x3E → 2 ≤ length q → get_or q 1 0 % 2 ^ 7 ≢ 0x00 → UnknownSubFunction q
 
 -- the second 13, "wrong length 13": "14 and a 3-byte group, length 4", "19 01 mask, length 3", "19 02 mask, length 3", "19 0A, length 2",
--- "07 and 08, .. length 4", "22, odd length 3 or more", "3E 00, length 2"
+-- "22, odd length 3 or more", "3E 00, length 2"
 pub data WrongLength (q : List ℕ) : Type 0 where
   not_4 : get_or q 0 0 ≡ 0x14 → length q ≢ 4 → WrongLength q
   not_3_of_01 : get_or q 0 0 ≡ 0x19 → 2 ≤ length q → get_or q 1 0 % 2 ^ 7 ≡ 0x01 → length q ≢ 3 → WrongLength q
   not_3_of_02 : get_or q 0 0 ≡ 0x19 → 2 ≤ length q → get_or q 1 0 % 2 ^ 7 ≡ 0x02 → length q ≢ 3 → WrongLength q
   not_2_of_0a : get_or q 0 0 ≡ 0x19 → 2 ≤ length q → get_or q 1 0 % 2 ^ 7 ≡ 0x0A → length q ≢ 2 → WrongLength q
-  not_4_of_07 : get_or q 0 0 ≡ 0x19 → 2 ≤ length q → get_or q 1 0 % 2 ^ 7 ≡ 0x07 → length q ≢ 4 → WrongLength q
-  not_4_of_08 : get_or q 0 0 ≡ 0x19 → 2 ≤ length q → get_or q 1 0 % 2 ^ 7 ≡ 0x08 → length q ≢ 4 → WrongLength q
   under_3 : get_or q 0 0 ≡ 0x22 → length q < 3 → WrongLength q
   even : get_or q 0 0 ≡ 0x22 → length q % 2 ≡ 0 → WrongLength q
   not_2_of_00 : get_or q 0 0 ≡ 0x3E → 2 ≤ length q → get_or q 1 0 % 2 ^ 7 ≡ 0x00 → length q ≢ 2 → WrongLength q
@@ -40,9 +37,5 @@ pub data Reads (q : List ℕ) : Request → Type 0 where
   count_by_mask : get_or q 0 0 ≡ 0x19 → get_or q 1 0 % 2 ^ 7 ≡ 0x01 → length q ≡ 3 → Reads q (Request.CountByMask (leb (2 ^ 7) (get_or q 1 0)) (get_or q 2 0))
   list_by_mask : get_or q 0 0 ≡ 0x19 → get_or q 1 0 % 2 ^ 7 ≡ 0x02 → length q ≡ 3 → Reads q (Request.ListByMask (leb (2 ^ 7) (get_or q 1 0)) (get_or q 2 0))
   list_all : get_or q 0 0 ≡ 0x19 → get_or q 1 0 % 2 ^ 7 ≡ 0x0A → length q ≡ 2 → Reads q (Request.ListAll (leb (2 ^ 7) (get_or q 1 0)))
-  count_by_severity : get_or q 0 0 ≡ 0x19 → get_or q 1 0 % 2 ^ 7 ≡ 0x07 → length q ≡ 4
-      → Reads q (Request.CountBySeverity (leb (2 ^ 7) (get_or q 1 0)) (record { severity = get_or q 2 0; status = get_or q 3 0 }))
-  list_by_severity : get_or q 0 0 ≡ 0x19 → get_or q 1 0 % 2 ^ 7 ≡ 0x08 → length q ≡ 4
-      → Reads q (Request.ListBySeverity (leb (2 ^ 7) (get_or q 1 0)) (record { severity = get_or q 2 0; status = get_or q 3 0 }))
   read_data : get_or q 0 0 ≡ 0x22 → 3 ≤ length q → length q % 2 ≡ 1 → Reads q Request.ReadData
   tester_present : get_or q 0 0 ≡ 0x3E → get_or q 1 0 % 2 ^ 7 ≡ 0x00 → length q ≡ 2 → Reads q (Request.TesterPresent (leb (2 ^ 7) (get_or q 1 0)))

@@ -4,7 +4,6 @@ pub mod Places
 pub mod Trailer
 pub mod Rules
 pub mod Faults
-pub mod Severity
 pub mod DataIdentifiers
 pub mod Requests
 pub mod Silence

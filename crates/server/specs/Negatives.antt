@@ -1,7 +1,6 @@
 -- Where a negative code is due for the content of a request, in its bytes: the form is right and the content is not (document 01, "Server").
-use Rattle.std.specs.Prelude.{◌≡◌, List, [], ◌∷◌, ◌≢◌, ℕ, ◌+◌, ◌*◌, ◌%◌, ◌^◌, ◌≤◌, ◌<◌, get_or, length}
+use Rattle.std.specs.Prelude.{◌≡◌, List, [], ◌∷◌, ◌≢◌, ℕ, ◌+◌, ◌*◌, ◌%◌, ◌≤◌, ◌<◌, get_or, length}
 use Rattle.identifiers.specs.Bytes.{written}
-use Rattle.server.specs.Severity.{severe_report}
 use Rattle.server.specs.DataIdentifiers.{answers_of}
 use Rattle.server.specs.Server.{Effect, effect}
 use Rattle.server.specs.declared.trailer.TrailerRecord.{TrailerRecord}
@@ -15,10 +14,9 @@ module _ (t : TrailerRecord) (q : List ℕ) where
     no_identifier : get_or q 0 0 ≡ 0x22 → 3 ≤ length q → length q % 2 ≡ 1
         → ((j k : ℕ) → 2 + 2 * j < length q → k < t.held → get_or t.identifiers k 0 ≢ get_or q (1 + 2 * j) 0 * 256 + get_or q (2 + 2 * j) 0) → NotHeld
 
-  -- 14: "Over 255 bytes: 14", the 62 and what is answered for each identifier; so one is held at least. "A report over 255 bytes is 14", of 08
+  -- 14: "Over 255 bytes: 14", the 62 and what is answered for each identifier; so one is held at least
   pub data TooLong : Type 0 where
     over_255 : get_or q 0 0 ≡ 0x22 → 3 ≤ length q → length q % 2 ≡ 1 → 255 < 1 + length (answers_of t q) → TooLong
-    over_255_of_08 : get_or q 0 0 ≡ 0x19 → get_or q 1 0 % 2 ^ 7 ≡ 0x08 → length q ≡ 4 → 255 < 3 + length (severe_report t (record { severity = get_or q 2 0; status = get_or q 3 0 })) → TooLong
 
 -- "Negative: `7F`, service, code": the record as it was, three bytes sent, and every byte of the buffer
 abbrev pub negative_sent : TrailerRecord → List ℕ → List ℕ → ℕ → Effect

@@ -1,7 +1,6 @@
 -- A request is read once: what it asks, with its numbers, or which check of its form fails (document 01, "Server").
 use Rattle.std.specs.Prelude.{Bool, List, ℕ, ◌+◌, ◌*◌, ◌%◌, eqb, ltb, leb, get_or, length}
 use Rattle.identifiers.specs.Choice.{pick, unless, both}
-use Rattle.server.specs.declared.severity.Masks.{Masks}
 use Rattle.server.specs.declared.requests.Request.{Request}
 
 unfoldable pub service_of : List ℕ → ℕ
@@ -19,10 +18,6 @@ silencing request = leb 128 (get_or request 1 0)
 unfoldable pub mask_of : List ℕ → ℕ
 mask_of request = get_or request 2 0
 
--- "07 and 08, each with severity mask and status mask"
-unfoldable pub masks_of : List ℕ → Masks
-masks_of request = record { severity = get_or request 2 0; status = get_or request 3 0 }
-
 -- "a 3-byte group"
 unfoldable pub group_of : List ℕ → ℕ
 group_of request = get_or request 1 0 * 65536 + get_or request 2 0 * 256 + get_or request 3 0
@@ -35,15 +30,13 @@ sized right request = unless right Request.WrongLength request
 unfoldable pub form_of_14 : List ℕ → Request
 form_of_14 request = sized (eqb (length request) 4) (Request.ClearGroup (group_of request))
 
--- "19 .. shorter than 2, 13; sub-function (low seven bits) unknown 12": "19 01 mask, length 3", "19 02 mask, length 3", "19 0A, length 2"; "07 and 08, .. length 4"
+-- "19 .. shorter than 2, 13; sub-function (low seven bits) unknown 12": "19 01 mask, length 3", "19 02 mask, length 3", "19 0A, length 2"
 unfoldable pub form_of_19 : List ℕ → Request
 form_of_19 request =
     pick (ltb (length request) 2) Request.TooShort
     (pick (eqb (sub_function_of request) 0x01) (sized (eqb (length request) 3) (Request.CountByMask (silencing request) (mask_of request)))
     (pick (eqb (sub_function_of request) 0x02) (sized (eqb (length request) 3) (Request.ListByMask (silencing request) (mask_of request)))
-    (pick (eqb (sub_function_of request) 0x0A) (sized (eqb (length request) 2) (Request.ListAll (silencing request)))
-    (pick (eqb (sub_function_of request) 0x07) (sized (eqb (length request) 4) (Request.CountBySeverity (silencing request) (masks_of request)))
-    (pick (eqb (sub_function_of request) 0x08) (sized (eqb (length request) 4) (Request.ListBySeverity (silencing request) (masks_of request))) Request.UnknownSubFunction)))))
+    (pick (eqb (sub_function_of request) 0x0A) (sized (eqb (length request) 2) (Request.ListAll (silencing request))) Request.UnknownSubFunction)))
 
 -- "22, odd length 3 or more"
 unfoldable pub form_of_22 : List ℕ → Request

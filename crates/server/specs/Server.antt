@@ -6,12 +6,10 @@ use Rattle.identifiers.specs.Bytes.{written}
 use Rattle.identifiers.specs.Refusals.{refusal}
 use Rattle.server.specs.Trailer.{sound_record, with_statuses}
 use Rattle.server.specs.Faults.{count_listed, two_bytes, report_of, group_held, cleared_of}
-use Rattle.server.specs.Severity.{count_severe, severe_report}
 use Rattle.server.specs.DataIdentifiers.{answers_of}
 use Rattle.server.specs.Requests.{service_of, request_of}
 use Rattle.server.specs.Silence.{silent_on}
 use Rattle.server.specs.declared.trailer.TrailerRecord.{TrailerRecord}
-use Rattle.server.specs.declared.severity.Masks.{Masks}
 use Rattle.server.specs.declared.requests.Request.{Request}
 use Rattle.server.specs.declared.serving.Reply.{Reply}
 use Rattle.server.specs.declared.serving.Reply.TheVariants.{Refused, Silent, Sent}
@@ -22,10 +20,6 @@ content_of_14 t group = unless (group_held t group) 0x31 0
 
 unfoldable pub content_of_19 : TrailerRecord → Bool → ℕ → ℕ
 content_of_19 t all mask = pick (ltb 255 (3 + length (report_of t all mask))) 0x14 0
-
--- "So 42 records fit, and 43 answer 14": three bytes and six for each
-unfoldable pub content_of_1908 : TrailerRecord → Masks → ℕ
-content_of_1908 t masks = pick (ltb 255 (3 + length (severe_report t masks))) 0x14 0
 
 unfoldable pub content_of_22 : TrailerRecord → List ℕ → ℕ
 content_of_22 t request = pick (eqb (length (answers_of t request)) 0) 0x31 (pick (ltb 255 (1 + length (answers_of t request))) 0x14 0)
@@ -40,8 +34,6 @@ negative_of t (Request.ClearGroup group) request = content_of_14 t group
 negative_of t (Request.CountByMask silent mask) request = 0
 negative_of t (Request.ListByMask silent mask) request = content_of_19 t false mask
 negative_of t (Request.ListAll silent) request = content_of_19 t true 0
-negative_of t (Request.CountBySeverity silent masks) request = 0
-negative_of t (Request.ListBySeverity silent masks) request = content_of_1908 t masks
 negative_of t Request.ReadData request = content_of_22 t request
 negative_of t (Request.TesterPresent silent) request = 0
 
@@ -49,7 +41,7 @@ negative_of t (Request.TesterPresent silent) request = 0
 unfoldable pub negative_bytes : ℕ → ℕ → List ℕ
 negative_bytes service code = 0x7F ∷ service ∷ code ∷ []
 
--- "Answer `54`"; "`59 01`, availability, `03`, count in two bytes"; "`59 02`, availability, then code and status of each match"; "`59 0A` and all likewise"; "07 answers like 01 with its own sub-function"; "08 lists severity, unit, code and status"; "`62`, then .."; "`7E 00`"
+-- "Answer `54`"; "`59 01`, availability, `03`, count in two bytes"; "`59 02`, availability, then code and status of each match"; "`59 0A` and all likewise"; "`62`, then .."; "`7E 00`"
 unfoldable pub positive_of : TrailerRecord → Request → List ℕ → List ℕ
 positive_of t Request.UnknownService request = []
 positive_of t Request.TooShort request = []
@@ -59,8 +51,6 @@ positive_of t (Request.ClearGroup group) request = 0x54 ∷ []
 positive_of t (Request.CountByMask silent mask) request = 0x59 ∷ 0x01 ∷ t.availability ∷ 0x03 ∷ two_bytes (count_listed t false mask)
 positive_of t (Request.ListByMask silent mask) request = 0x59 ∷ 0x02 ∷ t.availability ∷ report_of t false mask
 positive_of t (Request.ListAll silent) request = 0x59 ∷ 0x0A ∷ t.availability ∷ report_of t true 0
-positive_of t (Request.CountBySeverity silent masks) request = 0x59 ∷ 0x07 ∷ t.availability ∷ 0x03 ∷ two_bytes (count_severe t masks)
-positive_of t (Request.ListBySeverity silent masks) request = 0x59 ∷ 0x08 ∷ t.availability ∷ severe_report t masks
 positive_of t Request.ReadData request = 0x62 ∷ answers_of t request
 positive_of t (Request.TesterPresent silent) request = 0x7E ∷ 0x00 ∷ []
 
@@ -74,8 +64,6 @@ changed_by t (Request.ClearGroup group) = with_statuses t (cleared_of t group)
 changed_by t (Request.CountByMask silent mask) = t
 changed_by t (Request.ListByMask silent mask) = t
 changed_by t (Request.ListAll silent) = t
-changed_by t (Request.CountBySeverity silent masks) = t
-changed_by t (Request.ListBySeverity silent masks) = t
 changed_by t Request.ReadData = t
 changed_by t (Request.TesterPresent silent) = t
 

@@ -13,8 +13,6 @@ silenced (Request.ClearGroup group) = false
 silenced (Request.CountByMask silent mask) = silent
 silenced (Request.ListByMask silent mask) = silent
 silenced (Request.ListAll silent) = silent
-silenced (Request.CountBySeverity silent masks) = silent
-silenced (Request.ListBySeverity silent masks) = silent
 silenced Request.ReadData = false
 silenced (Request.TesterPresent silent) = silent
 

@@ -53,15 +53,13 @@ with_statuses t statuses =
       lengths = t.lengths;
       bytes = t.bytes;
       held = t.held;
-      severities = t.severities;
-      units = t.units;
     }
 
 -- a record of its fields, for the contracts of functions that are handed them
-abbrev pub record_of : List ℕ → List ℕ → ℕ → ℕ → List ℕ → List ℕ → List ℕ → ℕ → List ℕ → List ℕ → TrailerRecord
-record_of codes statuses count availability identifiers lengths bytes held severities units =
-    record { codes = codes; statuses = statuses; count = count; availability = availability; identifiers = identifiers; lengths = lengths; bytes = bytes; held = held; severities = severities; units = units }
+abbrev pub record_of : List ℕ → List ℕ → ℕ → ℕ → List ℕ → List ℕ → List ℕ → ℕ → TrailerRecord
+record_of codes statuses count availability identifiers lengths bytes held =
+    record { codes = codes; statuses = statuses; count = count; availability = availability; identifiers = identifiers; lengths = lengths; bytes = bytes; held = held }
 
 -- service 22 is handed the data identifiers alone: a record of these
 abbrev pub data_alone : List ℕ → List ℕ → List ℕ → ℕ → TrailerRecord
-data_alone identifiers lengths bytes held = record_of [] [] 0 0 identifiers lengths bytes held [] []
+data_alone identifiers lengths bytes held = record_of [] [] 0 0 identifiers lengths bytes held

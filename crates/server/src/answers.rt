@@ -1,16 +1,14 @@
 // The bytes of an answer, written from the start of the response.
-ghost use Rattle.std.specs.Prelude.{◌≡◌, true, [], ◌∷◌, ◌+◌, ◌≤◌, eqb, length, get_or};
-ghost use Rattle.identifiers.specs.Below.{list_below};
+ghost use Rattle.std.specs.Prelude.{◌≡◌, true, false, ◌∷◌, ◌≤◌, eqb, length, get_or};
+ghost use Rattle.identifiers.specs.Below.{count_below, list_below};
 ghost use Rattle.identifiers.specs.Bytes.{Puts};
 ghost use Rattle.server.specs.Trailer.{lengths_within, record_of};
-ghost use Rattle.server.specs.Faults.{two_bytes, reported};
-ghost use Rattle.server.specs.Severity.{severe_at};
+ghost use Rattle.server.specs.Faults.{listed, two_bytes, reported};
 ghost use Rattle.server.specs.Server.{negative_of, negative_bytes, positive_of};
 
 use crate::data_identifiers::put_answers;
 use crate::faults::{count_listed, put_report, put_two};
 use crate::requests::Request;
-use crate::severity::{Masks, count_severe, put_severe};
 
 pub fn put_negative(response: &mut [u8], service: u8, code: u8) -> usize
     requires { length response.old ≡ 255 }
@@ -22,13 +20,19 @@ pub fn put_negative(response: &mut [u8], service: u8, code: u8) -> usize
     3
 }
 
-// `01` counts what matches the mask, `07` what matches both masks.
-fn put_count(n: usize, sub: u8, availability: u8, response: &mut [u8]) -> usize
-    requires { (n ≤ 63) × (length response.old ≡ 255) }
-    ensures { Puts response.old 0 (0x59 ∷ sub ∷ availability ∷ 0x03 ∷ two_bytes n) result response.new }
+fn put_count(
+    statuses: &[u8; 63],
+    count: usize,
+    availability: u8,
+    mask: u8,
+    response: &mut [u8],
+) -> usize
+    requires { (count ≤ 63) × (length response.old ≡ 255) }
+    ensures { Puts response.old 0 (0x59 ∷ 0x01 ∷ availability ∷ 0x03 ∷ two_bytes (count_below (λ i. listed false mask (get_or statuses.now i 0)) count)) result response.new }
 {
+    let n = count_listed(statuses, false, mask, count);
     response[0] = 0x59;
-    response[1] = sub;
+    response[1] = 0x01;
     response[2] = availability;
     response[3] = 0x03;
     put_two(response, 4, n as u16)
@@ -53,38 +57,6 @@ fn put_list<'a>(
     put_report(codes, statuses, sub == 0x0A, mask, count, response, 3)
 }
 
-// `08` lists those that match both masks.
-fn put_severe_list<'a>(
-    codes: &'a [u32; 63],
-    statuses: &'a [u8; 63],
-    severities: &'a [u8; 63],
-    units: &'a [u8; 63],
-    count: usize,
-    availability: u8,
-    masks: Masks,
-    response: &mut [u8],
-) -> usize
-    requires { (count ≤ 63) × ((length response.old ≡ 255)
-        × (3 + length (list_below (λ i. severe_at masks (get_or severities.now i 0) (get_or units.now i 0) (get_or codes.now i 0) (get_or statuses.now i 0)) count) ≤ 255)) }
-    ensures { Puts response.old 0 (0x59 ∷ 0x08 ∷ availability ∷ list_below (λ i. severe_at masks (get_or severities.now i 0) (get_or units.now i 0) (get_or codes.now i 0) (get_or statuses.now i 0)) count) result response.new }
-{
-    response[0] = 0x59;
-    response[1] = 0x08;
-    response[2] = availability;
-    put_severe(
-        codes, statuses, severities, units, masks, count, response, 3,
-    )
-}
-
-fn put_present(response: &mut [u8]) -> usize
-    requires { length response.old ≡ 255 }
-    ensures { Puts response.old 0 (0x7E ∷ 0x00 ∷ []) result response.new }
-{
-    response[0] = 0x7E;
-    response[1] = 0x00;
-    2
-}
-
 // Of a request that is answered positively; of the others nothing.
 pub fn put_positive<'a>(
     codes: &'a [u32; 63],
@@ -95,15 +67,13 @@ pub fn put_positive<'a>(
     lengths: &'a [u8; 16],
     bytes: &'a [u8; 512],
     held: usize,
-    severities: &'a [u8; 63],
-    units: &'a [u8; 63],
     asked: Request,
     request: &[u8],
     response: &mut [u8],
 ) -> usize
-    requires { (count ≤ 63) × ((held ≤ 16) × ((lengths_within (record_of codes.now statuses.now count availability identifiers.now lengths.now bytes.now held severities.now units.now) ≡ true) × ((1 ≤ length request.now) × ((length response.old ≡ 255)
-        × (negative_of (record_of codes.now statuses.now count availability identifiers.now lengths.now bytes.now held severities.now units.now) asked request.now ≡ 0))))) }
-    ensures { Puts response.old 0 (positive_of (record_of codes.now statuses.now count availability identifiers.now lengths.now bytes.now held severities.now units.now) asked request.now) result response.new }
+    requires { (count ≤ 63) × ((held ≤ 16) × ((lengths_within (record_of codes.now statuses.now count availability identifiers.now lengths.now bytes.now held) ≡ true) × ((1 ≤ length request.now) × ((length response.old ≡ 255)
+        × (negative_of (record_of codes.now statuses.now count availability identifiers.now lengths.now bytes.now held) asked request.now ≡ 0))))) }
+    ensures { Puts response.old 0 (positive_of (record_of codes.now statuses.now count availability identifiers.now lengths.now bytes.now held) asked request.now) result response.new }
 {
     match asked {
         Request::UnknownService => 0,
@@ -115,8 +85,7 @@ pub fn put_positive<'a>(
             1
         }
         Request::CountByMask { silent: _, mask } => {
-            let n = count_listed(statuses, false, mask, count);
-            put_count(n, 0x01, availability, response)
+            put_count(statuses, count, availability, mask, response)
         }
         Request::ListByMask { silent: _, mask } => {
             put_list(codes, statuses, count, 0x02, availability, mask, response)
@@ -124,24 +93,14 @@ pub fn put_positive<'a>(
         Request::ListAll { silent: _ } => {
             put_list(codes, statuses, count, 0x0A, availability, 0, response)
         }
-        Request::CountBySeverity { silent: _, masks } => {
-            let n = count_severe(statuses, severities, masks, count);
-            put_count(n, 0x07, availability, response)
-        }
-        Request::ListBySeverity { silent: _, masks } => put_severe_list(
-            codes,
-            statuses,
-            severities,
-            units,
-            count,
-            availability,
-            masks,
-            response,
-        ),
         Request::ReadData => {
             response[0] = 0x62;
             put_answers(identifiers, lengths, bytes, held, request, response, 1)
         }
-        Request::TesterPresent { silent: _ } => put_present(response),
+        Request::TesterPresent { silent: _ } => {
+            response[0] = 0x7E;
+            response[1] = 0x00;
+            2
+        }
     }
 }

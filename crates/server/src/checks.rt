@@ -1,5 +1,5 @@
 // The negative code of a request, by what it asks.
-ghost use Rattle.std.specs.Prelude.{◌≡◌, List, ℕ, ◌+◌, ◌*◌, ◌≤◌, eqb, ltb, length};
+ghost use Rattle.std.specs.Prelude.{◌≡◌, ℕ, ◌+◌, ◌*◌, ◌≤◌, eqb, ltb, length};
 ghost use Rattle.identifiers.specs.Choice.{pick, unless, either};
 ghost use Rattle.server.specs.Places.{held_among};
 ghost use Rattle.server.specs.Trailer.{record_of, data_alone};
@@ -8,7 +8,6 @@ ghost use Rattle.server.specs.Server.{content_of_22, negative_of};
 use crate::data_identifiers::answers_length;
 use crate::faults::{ALL_GROUPS, count_listed, is_held};
 use crate::requests::Request;
-use crate::severity::count_severe;
 
 fn content_of_14(codes: &[u32; 63], count: usize, group: u32) -> u8
     requires { count ≤ 63 }
@@ -28,16 +27,6 @@ fn content_of_19(listed: usize) -> u8
     ensures { result ≡ pick (ltb 255 (3 + 4 * listed)) 0x14 0 }
 {
     if 63 < listed {
-        return 0x14;
-    }
-    0
-}
-
-// Report 08 has three bytes, and six for each code that matches: over 255 from the 43rd on.
-fn content_of_1908(severe: usize) -> u8
-    ensures { result ≡ pick (ltb 255 (3 + 6 * severe)) 0x14 0 }
-{
-    if 42 < severe {
         return 0x14;
     }
     0
@@ -63,7 +52,7 @@ fn content_of_22<'a>(
     0
 }
 
-// The negative code of a request, 0 where the answer is positive. The availability mask and the units play no part.
+// The negative code of a request, 0 where the answer is positive. The availability mask plays no part.
 pub fn negative<'a>(
     codes: &'a [u32; 63],
     statuses: &'a [u8; 63],
@@ -72,12 +61,11 @@ pub fn negative<'a>(
     lengths: &'a [u8; 16],
     bytes: &'a [u8; 512],
     held: usize,
-    severities: &'a [u8; 63],
     asked: Request,
     request: &[u8],
 ) -> u8
     requires { (count ≤ 63) × ((held ≤ 16) × ((1 ≤ length request.now) × (length request.now ≤ 255))) }
-    ensures { (availability : ℕ) (units : List ℕ) → result ≡ negative_of (record_of codes.now statuses.now count availability identifiers.now lengths.now bytes.now held severities.now units) asked request.now }
+    ensures { (availability : ℕ) → result ≡ negative_of (record_of codes.now statuses.now count availability identifiers.now lengths.now bytes.now held) asked request.now }
 {
     match asked {
         Request::UnknownService => 0x11,
@@ -90,13 +78,6 @@ pub fn negative<'a>(
             content_of_19(count_listed(statuses, false, mask, count))
         }
         Request::ListAll { silent: _ } => content_of_19(count_listed(statuses, true, 0, count)),
-        Request::CountBySeverity {
-            silent: _,
-            masks: _,
-        } => 0,
-        Request::ListBySeverity { silent: _, masks } => {
-            content_of_1908(count_severe(statuses, severities, masks, count))
-        }
         Request::ReadData => content_of_22(identifiers, lengths, bytes, held, request),
         Request::TesterPresent { silent: _ } => 0,
     }

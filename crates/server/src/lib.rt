@@ -6,7 +6,6 @@ mod faults;
 mod mask;
 mod requests;
 mod serving;
-mod severity;
 mod silence;
 mod status;
 mod trailer;

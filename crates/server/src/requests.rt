@@ -1,10 +1,8 @@
 // A request is read once: what it asks, with its numbers, or which check of its form fails.
-ghost use Rattle.std.specs.Prelude.{◌≡◌, ◌<◌, ◌≤◌, length, get_or};
-ghost use Rattle.server.specs.Requests.{group_of, sized, form_of_14, form_of_19, form_of_22, form_of_3e, request_of};
+ghost use Rattle.std.specs.Prelude.{◌≡◌, ◌<◌, ◌≤◌, length};
+ghost use Rattle.server.specs.Requests.{mask_of, group_of, sized, form_of_14, form_of_19, form_of_22, form_of_3e, request_of};
 
-use crate::severity::Masks;
-
-// The checks that fail, then each request with its numbers, `silent` where bit 7 of its sub-function is set.
+// The checks that fail, then each request of document 01 with its numbers, `silent` where bit 7 of its sub-function is set.
 #[derive(Drop)]
 pub enum Request {
     UnknownService,
@@ -15,8 +13,6 @@ pub enum Request {
     CountByMask { silent: bool, mask: u8 },
     ListByMask { silent: bool, mask: u8 },
     ListAll { silent: bool },
-    CountBySeverity { silent: bool, masks: Masks },
-    ListBySeverity { silent: bool, masks: Masks },
     ReadData,
     TesterPresent { silent: bool },
 }
@@ -54,14 +50,13 @@ fn sized(right: bool, asked: Request) -> Request
     Request::WrongLength
 }
 
-// The byte at a place, 0 where a request ends before it.
-fn byte_at(request: &[u8], place: usize) -> u8
-    ensures { result ≡ get_or request.now place 0 }
+fn mask(request: &[u8]) -> u8
+    ensures { result ≡ mask_of request.now }
 {
-    if request.len() <= place {
+    if request.len() < 3 {
         return 0;
     }
-    request[place]
+    request[2]
 }
 
 fn form_of_19(request: &[u8]) -> Request
@@ -73,7 +68,7 @@ fn form_of_19(request: &[u8]) -> Request
     }
     let sub = request[1] % 128;
     let silent = 128 <= request[1];
-    let mask = byte_at(request, 2);
+    let mask = mask(request);
     if sub == 0x01 {
         return sized(n == 3, Request::CountByMask { silent, mask });
     }
@@ -82,16 +77,6 @@ fn form_of_19(request: &[u8]) -> Request
     }
     if sub == 0x0A {
         return sized(n == 2, Request::ListAll { silent });
-    }
-    let masks = Masks {
-        severity: mask,
-        status: byte_at(request, 3),
-    };
-    if sub == 0x07 {
-        return sized(n == 4, Request::CountBySeverity { silent, masks });
-    }
-    if sub == 0x08 {
-        return sized(n == 4, Request::ListBySeverity { silent, masks });
     }
     Request::UnknownSubFunction
 }

@@ -76,11 +76,11 @@ struct Settled {
     cleared: Cleared,
 }
 
-// Which statuses a positive answer clears, whatever they are and whatever the data identifiers, severities and units: nothing else of a record changes.
+// Which statuses a positive answer clears, whatever they are and whatever the data identifiers: nothing else of a record changes.
 fn cleared_by(codes: &[u32; 63], count: usize, asked: Request) -> Cleared
     requires { (count ≤ 63) × (ascending codes.now count ≡ true) }
-    ensures { (reach_of result ≤ 63) × ((statuses : List ℕ) (availability : ℕ) (identifiers lengths bytes : List ℕ) (held : ℕ) (severities units : List ℕ)
-        → record_of codes.now (cleared_at result (bit_and 0x50 availability) statuses) count availability identifiers lengths bytes held severities units ≡ changed_by (record_of codes.now statuses count availability identifiers lengths bytes held severities units) asked) }
+    ensures { (reach_of result ≤ 63) × ((statuses : List ℕ) (availability : ℕ) (identifiers lengths bytes : List ℕ) (held : ℕ)
+        → record_of codes.now (cleared_at result (bit_and 0x50 availability) statuses) count availability identifiers lengths bytes held ≡ changed_by (record_of codes.now statuses count availability identifiers lengths bytes held) asked) }
 {
     if let Request::ClearGroup { group } = asked {
         return cleared_by_group(codes, count, group);
@@ -107,15 +107,13 @@ fn answered<'a>(
     lengths: &'a [u8; 16],
     bytes: &'a [u8; 512],
     held: usize,
-    severities: &'a [u8; 63],
-    units: &'a [u8; 63],
     request: &[u8],
     functional: bool,
     response: &mut [u8],
 ) -> Settled
-    requires { (sound_record (record_of codes.now statuses.now count availability identifiers.now lengths.now bytes.now held severities.now units.now) ≡ true) × (wrong_lengths (length request.now) (length response.old) ≡ false) }
-    ensures { (reach_of result.cleared ≤ 63) × (effect (record_of codes.now (cleared_at result.cleared (bit_and 0x50 availability) statuses.now) count availability identifiers.now lengths.now bytes.now held severities.now units.now) result.reply response.new
-        ≡ answered (record_of codes.now statuses.now count availability identifiers.now lengths.now bytes.now held severities.now units.now) (request_of request.now) request.now functional response.old) }
+    requires { (sound_record (record_of codes.now statuses.now count availability identifiers.now lengths.now bytes.now held) ≡ true) × (wrong_lengths (length request.now) (length response.old) ≡ false) }
+    ensures { (reach_of result.cleared ≤ 63) × (effect (record_of codes.now (cleared_at result.cleared (bit_and 0x50 availability) statuses.now) count availability identifiers.now lengths.now bytes.now held) result.reply response.new
+        ≡ answered (record_of codes.now statuses.now count availability identifiers.now lengths.now bytes.now held) (request_of request.now) request.now functional response.old) }
 {
     let asked = read_request(request);
     let code = negative(
@@ -126,7 +124,6 @@ fn answered<'a>(
         lengths,
         bytes,
         held,
-        severities,
         asked,
         request,
     );
@@ -146,8 +143,6 @@ fn answered<'a>(
         lengths,
         bytes,
         held,
-        severities,
-        units,
         asked,
         request,
         response,
@@ -167,14 +162,12 @@ fn serve_parts<'a>(
     lengths: &'a [u8; 16],
     bytes: &'a [u8; 512],
     held: u8,
-    severities: &'a [u8; 63],
-    units: &'a [u8; 63],
     request: &[u8],
     functional: bool,
     response: &mut [u8],
 ) -> Settled
-    ensures { (reach_of result.cleared ≤ 63) × (effect (record_of codes.now (cleared_at result.cleared (bit_and 0x50 availability) statuses.now) count availability identifiers.now lengths.now bytes.now held severities.now units.now) result.reply response.new
-        ≡ served_of (record_of codes.now statuses.now count availability identifiers.now lengths.now bytes.now held severities.now units.now) request.now functional response.old) }
+    ensures { (reach_of result.cleared ≤ 63) × (effect (record_of codes.now (cleared_at result.cleared (bit_and 0x50 availability) statuses.now) count availability identifiers.now lengths.now bytes.now held) result.reply response.new
+        ≡ served_of (record_of codes.now statuses.now count availability identifiers.now lengths.now bytes.now held) request.now functional response.old) }
 {
     if !sound_record(
         codes,
@@ -199,8 +192,6 @@ fn serve_parts<'a>(
         lengths,
         bytes,
         held as usize,
-        severities,
-        units,
         request,
         functional,
         response,
@@ -227,8 +218,6 @@ pub fn serve(
         &record.lengths,
         &record.bytes,
         record.held,
-        &record.severities,
-        &record.units,
         request,
         functional,
         response,

@@ -16,8 +16,6 @@ fn silenced(asked: Request) -> bool
         Request::CountByMask { silent, mask: _ } => silent,
         Request::ListByMask { silent, mask: _ } => silent,
         Request::ListAll { silent } => silent,
-        Request::CountBySeverity { silent, masks: _ } => silent,
-        Request::ListBySeverity { silent, masks: _ } => silent,
         Request::ReadData => false,
         Request::TesterPresent { silent } => silent,
     }

@@ -19,8 +19,6 @@ pub struct TrailerRecord {
     pub lengths: [u8; 16],
     pub bytes: [u8; 512],
     pub held: u8,
-    pub severities: [u8; 63],
-    pub units: [u8; 63],
 }
 
 fn codes_ascend(codes: &[u32; 63], count: usize) -> bool
@@ -94,7 +92,7 @@ fn lengths_within(lengths: &[u8; 16], held: usize) -> bool
     sound
 }
 
-// Does a record keep its rules, whatever its data bytes, severities and units are.
+// Does a record keep its rules, whatever its data bytes are.
 pub fn sound_record<'a>(
     codes: &'a [u32; 63],
     statuses: &'a [u8; 63],
@@ -104,7 +102,7 @@ pub fn sound_record<'a>(
     lengths: &'a [u8; 16],
     held: u8,
 ) -> bool
-    ensures { (bytes severities units : List ℕ) → result ≡ sound_record (record_of codes.now statuses.now count availability identifiers.now lengths.now bytes held severities units) }
+    ensures { (bytes : List ℕ) → result ≡ sound_record (record_of codes.now statuses.now count availability identifiers.now lengths.now bytes held) }
 {
     if 63 < count {
         return false;

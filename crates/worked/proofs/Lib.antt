@@ -1,3 +1,2 @@
 -- The list, which belongs to no function.
 pub mod Worked
-pub mod WorkedSeverity

@@ -110,8 +110,6 @@ trailer =
       lengths = 2 ∷ replicate 15 0;
       bytes = 0x41 ∷ 0x42 ∷ replicate 510 0;
       held = 1;
-      severities = 0x80 ∷ 0x20 ∷ 0x40 ∷ replicate 60 0;
-      units = 0x03 ∷ 0x02 ∷ 0x06 ∷ replicate 60 0;
     }
 
 -- the server's answer to a physical request, and its response buffer afterwards, of which every byte was AA

@@ -1,37 +1,16 @@
 -- `put_positive` meets its contract: case by case.
-use mathlib.Core.Path.{◌≡◌, ◌∙◌}
-use mathlib.Core.Bool.{Bool}
-use Prim.Native.Nat.{ℕ, ◌≤◌}
+use mathlib.Core.Path.{◌∙◌}
 use native.Mathlib.Omega.{arith}
 use borrow.Author.Rules.{rules}
 use lib.ListN.{length-set}
-use Rattle.identifiers.specs.Below.{count_below}
-use Rattle.identifiers.proofs.LawsBelow.{count-le}
 use Rattle.identifiers.proofs.LawsBytes.{puts_none, puts-byte, keeps-length, ◌▸◌}
 use Rattle.server.specs.Trailer.{lengths_within}
 use Rattle.server.specs.Faults.{count_listed, report_of}
-use Rattle.server.specs.Severity.{severe_among, count_severe, severe_report}
 use Rattle.server.specs.DataIdentifiers.{data_of, identifier_and_data, answer_to, answers_of}
 use Rattle.server.specs.Server.{negative_of, positive_of}
-use Rattle.server.proofs.LawsServer.{fits-1908, fits-22}
+use Rattle.server.proofs.LawsServer.{fits-22}
 use Rattle.server.proofs.answers.put_positive.Statement.{statement}
 use Rattle.server.proofs.answers.put_positive.Tie as tie
-
--- of at most 63 codes at most 63 are counted
-few : (p : ℕ → Bool) (count : ℕ) {n : ℕ} → count ≤ 63 → n ≡ count_below p count → n ≤ 63
-few p count l e = omega (arith, e, count-le p count)
-
-put-count-requires : tie.Need-put-count-requires
-put-count-requires c κs = let p = c.before.before.before.before.before.before.before.requires in (few _ _ p.0 c.before.count-listed.ensures, p.1.1.1.1.0)
-
-put-count-requires-2 : tie.Need-put-count-requires-2
-put-count-requires-2 c κs = let p = c.before.before.before.before.before.before.before.requires in (few _ _ p.0 c.before.count-severe.ensures, p.1.1.1.1.0)
-
-put-severe-list-requires : tie.Need-put-severe-list-requires
-unfolding negative_of severe_report
-put-severe-list-requires c κs =
-    let p = c.before.before.before.before.before.before.requires in
-    (p.0, (p.1.1.1.1.0, fits-1908 _ _ (rw c.before.before.asked4.given.1 at p.1.1.1.1.1)))
 
 put-answers-requires : tie.Need-put-answers-requires
 unfolding negative_of lengths_within answers_of answer_to identifier_and_data data_of
@@ -64,7 +43,7 @@ same-length-2 c = keeps-length c.before.before.put_count.ensures
 
 returns-6 : tie.Need-returns-6
 unfolding positive_of count_listed
-returns-6 c = rw c.before.before.before.before.before.before.asked.given.1 (rw c.before.before.before.before.count-listed.ensures at c.before.before.put_count.ensures)
+returns-6 c = rw c.before.before.before.before.before.asked.given.1 c.before.before.put_count.ensures
 
 same-length-3 : tie.Need-same-length-3
 same-length-3 c = keeps-length c.before.before.put-list.ensures
@@ -81,32 +60,15 @@ unfolding positive_of report_of
 returns-8 c = rw c.before.before.before.before.enum-told6.given.1 c.before.before.put-list2.ensures
 
 same-length-5 : tie.Need-same-length-5
-same-length-5 c = keeps-length c.before.before.put-count2.ensures
+same-length-5 c = keeps-length c.before.before.put-answers.ensures ∙ simp length-set
 
 returns-9 : tie.Need-returns-9
-unfolding positive_of count_severe severe_among
-returns-9 c = rw c.before.before.before.before.before.before.asked3.given.1 (rw c.before.before.before.before.count-severe.ensures at c.before.before.put-count2.ensures)
-
-same-length-6 : tie.Need-same-length-6
-same-length-6 c = keeps-length c.before.before.put-severe-list.ensures
+unfolding positive_of answers_of answer_to identifier_and_data data_of
+returns-9 c = rw c.before.before.before.before.enum-told7.given.1 (puts-byte _ 0 0x62 ▸ c.before.before.put-answers.ensures)
 
 returns-10 : tie.Need-returns-10
-unfolding positive_of severe_report
-returns-10 c = rw c.before.before.before.before.before.asked4.given.1 c.before.before.put-severe-list.ensures
-
-same-length-7 : tie.Need-same-length-7
-same-length-7 c = keeps-length c.before.before.put-answers.ensures ∙ simp length-set
-
-returns-11 : tie.Need-returns-11
-unfolding positive_of answers_of answer_to identifier_and_data data_of
-returns-11 c = rw c.before.before.before.before.enum-told7.given.1 (puts-byte _ 0 0x62 ▸ c.before.before.put-answers.ensures)
-
-same-length-8 : tie.Need-same-length-8
-same-length-8 c = keeps-length c.before.before.put-present.ensures
-
-returns-12 : tie.Need-returns-12
 unfolding positive_of
-returns-12 c = rw c.before.before.before.before.enum-told8.given.1 c.before.before.put-present.ensures
+returns-10 c = rw c.enum-told8.given.1 (puts-byte _ 0 0x7E ▸ puts-byte _ 1 0x00)
 
 pub put-positive-spec : {M : Type 1} → statement M
 put-positive-spec = tie.close (tie.spec
@@ -118,21 +80,16 @@ put-positive-spec = tie.close (tie.spec
     (λ c. search rules)
     (λ c. search rules)
     (λ c κs. search rules)
-    put-count-requires
     (λ c. search rules)
     (λ c κs. search rules)
     (λ c. search rules)
     (λ c κs. search rules)
-    (λ c. search rules)
-    (λ c κs. search rules)
-    put-count-requires-2
-    (λ c. search rules)
-    put-severe-list-requires
     (λ c. search rules)
     (λ c. search rules)
     put-answers-requires
     (λ c. search rules)
-    (λ c κs. search rules)
+    (λ c. search rules)
+    (λ c. search rules)
     returns
     returns-2
     returns-3
@@ -147,9 +104,5 @@ put-positive-spec = tie.close (tie.spec
     returns-8
     same-length-5
     returns-9
-    same-length-6
-    returns-10
-    same-length-7
-    returns-11
-    same-length-8
-    returns-12)
+    (λ c. search rules)
+    returns-10)

@@ -23,7 +23,7 @@ use Rattle.server.proofs.serving.answered.Tie as tie
 -- the record with these statuses, and as it was lent: it keeps its rules, and the lengths are right
 module _ (k : tie.Start) where
   abbrev with : List ℕ → TrailerRecord
-  with statuses = record_of k.args.codes.now statuses k.args.count k.args.availability k.args.identifiers.now k.args.lengths.now k.args.bytes.now k.args.held k.args.severities.now k.args.units.now
+  with statuses = record_of k.args.codes.now statuses k.args.count k.args.availability k.args.identifiers.now k.args.lengths.now k.args.bytes.now k.args.held
 
   abbrev t : TrailerRecord
   t = with k.args.statuses.now
@@ -52,7 +52,7 @@ module _ (k : tie.After-negative) where
   due = negative_of (t (entry k.before)) (asked k.before) (entry k.before).args.request.now
 
   code : k.negative.result ≡ due
-  code = k.negative.ensures (entry k.before).args.availability _
+  code = k.negative.ensures (entry k.before).args.availability
 
 -- it is answered
 module _ (k : tie.Else1) where
@@ -120,7 +120,7 @@ returns-3 c =
     let one = two.before in
     let done = c.cleared_by.ensures in (
       done.0,
-      same_effect (done.1 _ _ _ _ _ _ _ _) (ap Sent (put.ends ∙ zero-add _)) put.holds
+      same_effect (done.1 _ _ _ _ _ _) (ap Sent (put.ends ∙ zero-add _)) put.holds
           ∙ as_read (read one) (answered-positive _ _ _ _ _ (spoken one) (sym (code (known one)) ∙ two.if2.false)),
     )
 

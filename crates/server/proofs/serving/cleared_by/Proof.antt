@@ -19,7 +19,7 @@ use Rattle.server.proofs.serving.cleared_by.Tie as tie
 
 returns : tie.Need-returns
 unfolding changed_by cleared_of
-returns c = (c.cleared-by-group.ensures.0, λ statuses availability identifiers lengths bytes held severities units. rw (c.cleared-by-group.ensures.1, c.before.before.asked.given.1))
+returns c = (c.cleared-by-group.ensures.0, λ statuses availability identifiers lengths bytes held. rw (c.cleared-by-group.ensures.1, c.before.before.asked.given.1))
 
 -- a request that clears no group changes nothing
 unchanged : (t : TrailerRecord) (asked : Request) (ks : List ℕ) → T (not (has_key ks 4)) → OneOf ks (tag_of the_type asked) → t ≡ changed_by t asked
@@ -32,13 +32,11 @@ unchanged t (Request.ClearGroup group) ks n k = absurd (miss ks 4 n k)
 unchanged t (Request.CountByMask silent mask) ks n k = refl
 unchanged t (Request.ListByMask silent mask) ks n k = refl
 unchanged t (Request.ListAll silent) ks n k = refl
-unchanged t (Request.CountBySeverity silent masks) ks n k = refl
-unchanged t (Request.ListBySeverity silent masks) ks n k = refl
 unchanged t Request.ReadData ks n k = refl
 unchanged t (Request.TesterPresent silent) ks n k = refl
 
 returns-2 : tie.Need-returns-2
-returns-2 c = (none-reach refl, λ statuses availability identifiers lengths bytes held severities units. rw (none-cleared refl) (unchanged _ _ (0 ∷ 1 ∷ 2 ∷ 3 ∷ 5 ∷ 6 ∷ 7 ∷ 8 ∷ 9 ∷ 10 ∷ 11 ∷ []) tt c.match.keys2))
+returns-2 c = (none-reach refl, λ statuses availability identifiers lengths bytes held. rw (none-cleared refl) (unchanged _ _ (0 ∷ 1 ∷ 2 ∷ 3 ∷ 5 ∷ 6 ∷ 7 ∷ 8 ∷ 9 ∷ []) tt c.match.keys2))
 
 pub cleared-by-spec : {M : Type 1} → statement M
 cleared-by-spec = tie.close (tie.spec

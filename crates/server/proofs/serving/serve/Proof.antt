@@ -24,7 +24,7 @@ clear-first-requires c κs = rw c.before.before.cleared2.given.1 at c.before.bef
 
 -- the record as it came
 abbrev t : tie.After-statuses → TrailerRecord
-t c = c.before.before.before.before.before.before.before.before.before.before.before.before.before.before.before.before.args.t1
+t c = c.before.before.before.before.before.before.before.before.before.before.before.before.before.before.args.t1
 
 -- with the statuses that are cleared
 abbrev with : tie.After-statuses → Cleared → List ℕ

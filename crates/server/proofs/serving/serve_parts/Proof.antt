@@ -17,14 +17,14 @@ use Rattle.server.proofs.serving.serve_parts.Tie as tie
 -- the record with these statuses, and as it was lent
 module _ (k : tie.Start) where
   abbrev with : List ℕ → TrailerRecord
-  with statuses = record_of k.args.codes.now statuses k.args.count k.args.availability k.args.identifiers.now k.args.lengths.now k.args.bytes.now k.args.held k.args.severities.now k.args.units.now
+  with statuses = record_of k.args.codes.now statuses k.args.count k.args.availability k.args.identifiers.now k.args.lengths.now k.args.bytes.now k.args.held
 
   abbrev t : TrailerRecord
   t = with k.args.statuses.now
 
 -- it keeps its rules
 sound : (k : tie.Else1) → sound_record (t k.before.before.before.before) ≡ true
-sound k = sym (k.before.sound-record.ensures _ _ _) ∙ not-false _ k.if1.false
+sound k = sym (k.before.sound-record.ensures _) ∙ not-false _ k.if1.false
 
 -- the lengths are right
 right : (k : tie.Else2) → let start = k.before.before.before.before.before.before in wrong_lengths (length start.args.request.now) (length start.args.response.now) ≡ false
@@ -34,7 +34,7 @@ returns : tie.Need-returns
 returns c =
     let l = c.unchanged.ensures in
     let start = c.before.before.before.before.before in
-    (none-reach l.1, same_effect (ap (with start) (none-cleared l.1 _ _)) l.0 refl ∙ sym (served-1 _ _ _ _ (sym (c.before.before.sound-record.ensures _ _ _) ∙ not-true _ c.before.if1.true)))
+    (none-reach l.1, same_effect (ap (with start) (none-cleared l.1 _ _)) l.0 refl ∙ sym (served-1 _ _ _ _ (sym (c.before.before.sound-record.ensures _) ∙ not-true _ c.before.if1.true)))
 
 returns-2 : tie.Need-returns-2
 returns-2 c =

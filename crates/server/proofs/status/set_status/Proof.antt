@@ -19,7 +19,7 @@ module _ (k : tie.Else1) where
   entry = k.before.before.before.before.before.before.before.before
 
   sound : sound_record entry.args.t1 ≡ true
-  sound = sym (k.before.sound-record.ensures _ _ _) ∙ not-false _ k.if1.left
+  sound = sym (k.before.sound-record.ensures _) ∙ not-false _ k.if1.left
 
   few : entry.args.t1.count ≤ 63
   few = (sound-has _ sound).count
@@ -33,7 +33,7 @@ unfolding held_among
 held k = rw k.before.place-among.ensures at (lt-ltb _ _ k.if2.false)
 
 returns : tie.Need-returns
-returns c = set-ends (setting-1 _ _ _ (sym (c.before.sound-record.ensures _ _ _) ∙ not-true _ c.if1.true)) (refl, refl)
+returns c = set-ends (setting-1 _ _ _ (sym (c.before.sound-record.ensures _) ∙ not-true _ c.if1.true)) (refl, refl)
 
 place-among-requires : tie.Need-place-among-requires
 place-among-requires c κs = few c.before.before

@@ -10,15 +10,15 @@ use Rattle.server.proofs.trailer.sound_record.Tie as tie
 
 returns : tie.Need-returns
 unfolding sound_record
-returns c bytes severities units = stop _ (sym (stop _ (lt-leb _ _ c.if1.true)))
+returns c bytes = stop _ (sym (stop _ (lt-leb _ _ c.if1.true)))
 
 returns-2 : tie.Need-returns-2
 unfolding sound_record
-returns-2 c bytes severities units = stop _ (sym (so (le-leb _ _ c.before.if1.false) (sym (lt-leb _ _ c.if2.true))))
+returns-2 c bytes = stop _ (sym (so (le-leb _ _ c.before.if1.false) (sym (lt-leb _ _ c.if2.true))))
 
 returns-3 : tie.Need-returns-3
 unfolding sound_record codes_below statuses_within lengths_within
-returns-3 c bytes severities units =
+returns-3 c bytes =
     let masked = c.before.before.before.before in
     rw (masked.sound-mask.ensures, c.before.before.before.sound-codes.ensures, c.before.before.statuses-within.ensures, c.before.identifiers_ascend.ensures, c.lengths-within.ensures)
     (so (sym (so (le-leb _ _ masked.before.before.if1.false) (sym (le-leb _ _ masked.before.if2.false)))) (tests-in-a-row _ _ _ _ _ _))
