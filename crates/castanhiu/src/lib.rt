@@ -1,4 +1,6 @@
 // The layers for a host in C: each function calls a layer's own and gives its answer in document 01's numbers.
+#![tactic(auto)]
+
 mod frames;
 mod identifier;
 mod log;

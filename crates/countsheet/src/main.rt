@@ -1,4 +1,6 @@
 // countsheet: the sheet of standard input, as a table or as one line of refusal, to standard output.
+#![tactic(auto)]
+
 ghost use Rattle.std.specs.Prelude.{◌≡◌};
 ghost use Rattle.sheet.specs.Printed.{printed};
 

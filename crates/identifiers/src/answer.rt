@@ -4,7 +4,7 @@ ghost use Rattle.identifiers.specs.Answers.{answer_number, answer_told};
 
 use crate::refusal::Refusal;
 
-#[derive(Drop)]
+#[derive(Clone, Copy)]
 pub enum Answer {
     Done,
     Refused(Refusal),
@@ -12,7 +12,7 @@ pub enum Answer {
 
 // The same in numbers: the refusal, 0 for none.
 #[repr(C)]
-#[derive(Drop)]
+#[derive(Clone, Copy)]
 pub struct AnswerTold {
     pub refusal: u8,
 }

@@ -19,7 +19,7 @@ const PS_WEIGHT: u32 = 1 << 8;
 
 // P, R, DP, PF, PS and SA.
 #[repr(C)]
-#[derive(Drop)]
+#[derive(Clone, Copy)]
 pub struct Identifier {
     pub priority: u8,
     pub reserved: u8,
@@ -29,20 +29,20 @@ pub struct Identifier {
     pub source: u8,
 }
 
-#[derive(Drop)]
+#[derive(Clone, Copy)]
 pub enum IdentifierRead {
     Fields(Identifier),
     Refused(Refusal),
 }
 
-#[derive(Drop)]
+#[derive(Clone, Copy)]
 pub enum IdentifierWritten {
     Number(u32),
     Refused(Refusal),
 }
 
 // What PS is.
-#[derive(Drop)]
+#[derive(Clone, Copy)]
 pub enum Target {
     Destination(u8),
     GroupExtension(u8),
@@ -50,7 +50,7 @@ pub enum Target {
 
 // The reader's answer in numbers: the refusal, 0 for none, and the fields, all 0 where refused.
 #[repr(C)]
-#[derive(Drop)]
+#[derive(Clone, Copy)]
 pub struct IdentifierReadTold {
     pub refusal: u8,
     pub fields: Identifier,
@@ -58,7 +58,7 @@ pub struct IdentifierReadTold {
 
 // The writer's answer in numbers: the refusal, 0 for none, and the identifier, 0 where refused.
 #[repr(C)]
-#[derive(Drop)]
+#[derive(Clone, Copy)]
 pub struct IdentifierWrittenTold {
     pub refusal: u8,
     pub number: u32,

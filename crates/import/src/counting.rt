@@ -7,7 +7,7 @@ use identifiers::{Answer, Refusal};
 use logs::{LineAnswer, read_front};
 
 // How many lines, frames and lines passed over; and whether a line was refused, whose number is then that of the lines.
-#[derive(Drop)]
+#[derive(Clone, Copy)]
 pub struct Counts {
     pub lines: usize,
     pub frames: usize,
@@ -16,7 +16,7 @@ pub struct Counts {
 }
 
 // Where the line that has begun stands in the text.
-#[derive(Drop)]
+#[derive(Clone, Copy)]
 pub struct Taken {
     pub counts: Counts,
     pub refused: bool,

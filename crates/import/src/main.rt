@@ -1,4 +1,6 @@
 // import: the frames of a log and its lines passed over, counted, or its first bad line, from standard input to standard output.
+#![tactic(auto)]
+
 ghost use Rattle.std.specs.Prelude.{◌≡◌, List, ℕ, length};
 ghost use Rattle.importing.specs.Logs.{imported};
 ghost use Rattle.importing.specs.Summaries.{summary_text};
@@ -12,7 +14,7 @@ use input::Input;
 use summary::put_summary;
 
 // What is known of a log that was read to its end, or as far as it decides the answer.
-#[derive(Drop)]
+#[derive(Clone, Copy)]
 pub enum Log {
     Read(Counts),
     Failed,

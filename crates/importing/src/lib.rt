@@ -1,1 +1,3 @@
 // A whole log imported: statements alone.
+#![tactic(auto)]
+

@@ -5,7 +5,7 @@ ghost use Rattle.input.specs.Within.{words_within, word_within, base_of, below};
 use text::DigitsRead;
 
 // How many bytes a word has, or that there is no such word, or that the buffer does not take it.
-#[derive(Drop)]
+#[derive(Clone, Copy)]
 pub enum WordRead {
     Bytes(usize),
     Missing,

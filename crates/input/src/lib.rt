@@ -1,5 +1,7 @@
 // What a program is handed, standard input and the words behind its name, and where its lines go. Which bytes the operating
 // system brings, which words were given and whether what is written arrives, no contract can say: they bound what is counted.
+#![tactic(auto)]
+
 mod arguments;
 mod standard_input;
 mod standard_output;

@@ -5,7 +5,7 @@ ghost use Rattle.input.specs.Within.{within};
 use libc::STDIN_FILENO;
 
 // How many bytes were read, or that a read failed.
-#[derive(Drop)]
+#[derive(Clone, Copy)]
 pub enum Input {
     Bytes(usize),
     Failed,

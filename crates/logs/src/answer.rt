@@ -7,7 +7,7 @@ ghost use Rattle.logs.specs.Written.{line_told};
 use identifiers::Refusal;
 use text::put;
 
-#[derive(Drop)]
+#[derive(Clone, Copy)]
 pub enum LineAnswer {
     Frame,
     PassedOver,
@@ -15,7 +15,7 @@ pub enum LineAnswer {
 }
 
 // The data bytes stand in the first `length` places, and 0 behind them. Without a frame all numbers are 0.
-#[derive(Drop)]
+#[derive(Clone, Copy)]
 pub struct LogFrame {
     pub answer: LineAnswer,
     pub identifier: u32,
@@ -26,7 +26,7 @@ pub struct LogFrame {
 
 // The answer in numbers: the refusal, 0 for none.
 #[repr(C)]
-#[derive(Drop)]
+#[derive(Clone, Copy)]
 pub struct LogFrameTold {
     pub refusal: u8,
     pub passed_over: bool,
@@ -36,14 +36,14 @@ pub struct LogFrameTold {
 }
 
 // How many bytes the line has, its newline among them, or the refusal.
-#[derive(Drop)]
+#[derive(Clone, Copy)]
 pub enum LineWritten {
     Written(u8),
     Refused(Refusal),
 }
 
 #[repr(C)]
-#[derive(Drop)]
+#[derive(Clone, Copy)]
 pub struct LogLineTold {
     pub refusal: u8,
     pub length: u8,

@@ -1,4 +1,6 @@
 // One line of a log: read into a stamped frame, and written from one.
+#![tactic(auto)]
+
 mod answer;
 mod parts;
 mod read;

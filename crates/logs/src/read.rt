@@ -11,7 +11,7 @@ use crate::scan::{Scanned, scan};
 use identifiers::Refusal;
 
 // A line that a newline ends, and where the next one begins; or one that has only begun.
-#[derive(Drop)]
+#[derive(Clone, Copy)]
 pub struct Front {
     pub ended: bool,
     pub next: usize,

@@ -5,7 +5,7 @@ ghost use Rattle.logs.specs.Scans.{TimeFound, NameFound, scanned};
 
 use crate::parts::{byte_at, bytes_from, decimal_run, digits_in, pass};
 
-#[derive(Drop)]
+#[derive(Clone, Copy)]
 pub struct Scanned {
     pub begins: bool,
     pub three: bool,
@@ -16,14 +16,14 @@ pub struct Scanned {
     pub data: [u8; 8],
 }
 
-#[derive(Drop)]
+#[derive(Clone, Copy)]
 struct Time {
     good: bool,
     dot: usize,
     stamp: u32,
 }
 
-#[derive(Drop)]
+#[derive(Clone, Copy)]
 struct Name {
     good: bool,
     three: bool,

@@ -1,4 +1,6 @@
 // mend: the whole readings of a cut sheet, from standard input to standard output, and a line for each dropped stretch to standard error.
+#![tactic(auto)]
+
 ghost use Rattle.std.specs.Prelude.{◌≡◌, true, ◌<◌, length};
 ghost use Rattle.input.specs.Within.{empty_written};
 ghost use Rattle.mending.specs.Mended.{sheet_text, list_text};

@@ -4,7 +4,7 @@ ghost use Rattle.mending.specs.Mended.{mended_told};
 
 use identifiers::Refusal;
 
-#[derive(Drop)]
+#[derive(Clone, Copy)]
 pub enum Mended {
     Written(u32, u32),
     Refused(Refusal),
@@ -12,7 +12,7 @@ pub enum Mended {
 
 // The answer in numbers: the refusal, 0 for none, and both lengths, 0 where refused.
 #[repr(C)]
-#[derive(Drop)]
+#[derive(Clone, Copy)]
 pub struct MendedTold {
     pub refusal: u8,
     pub kept: u32,

@@ -1,4 +1,6 @@
 // Places put in the order of their keys.
+#![tactic(auto)]
+
 mod sorting;
 
 pub use sorting::{MOST_PLACES, sort};

@@ -1,4 +1,6 @@
 // Identifiers, addresses, readings, routes and frames: what the standards print, and both sides of each limit.
+#![tactic(auto)]
+
 mod document_000;
 mod document_003;
 mod tables;

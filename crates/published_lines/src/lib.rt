@@ -1,4 +1,6 @@
 // What the published examples are made of: the lines that are said, and the tables of cases, whose parts stand between marks.
+#![tactic(auto)]
+
 ghost use Rattle.std.specs.Prelude.{◌≡◌, not, ◌%◌, eqb, get_or, take};
 ghost use Rattle.published_lines.specs.Tables.{reach_of, marks_of, part_of, number_or_zero, value_of};
 

@@ -1,4 +1,6 @@
 // Requests, records and count sheets: what the standards print, and both sides of each limit.
+#![tactic(auto)]
+
 mod records;
 mod sheets;
 mod tables;

@@ -1,4 +1,6 @@
 // ranking: the page of one mask from the sheet of standard input, to standard output.
+#![tactic(auto)]
+
 ghost use Rattle.std.specs.Prelude.{◌≡◌};
 ghost use Rattle.sheet.specs.Ranked.{ranked_text};
 

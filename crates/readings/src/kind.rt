@@ -4,7 +4,7 @@ ghost use Rattle.std.proofs.Math.IntN.{sub_ℕ};
 ghost use Rattle.readings.specs.Fractions.{fraction, PowerOfTwo};
 ghost use Rattle.readings.specs.Kinds.{kind_of, high_byte};
 
-#[derive(Drop)]
+#[derive(Clone, Copy)]
 pub struct Kind {
     pub bytes: u8,
     pub divisor: u16,

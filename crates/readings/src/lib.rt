@@ -1,4 +1,6 @@
 // Vehicle positions and their addresses, the route of a frame, and parameter readings.
+#![tactic(auto)]
+
 mod kind;
 mod position;
 mod reading;

@@ -4,7 +4,7 @@ ghost use Rattle.readings.specs.Positions.{place_of, address_of, position_at, tr
 
 use identifiers::Refusal;
 
-#[derive(Drop)]
+#[derive(Clone, Copy)]
 pub enum Position {
     Zero,
     One,
@@ -15,14 +15,14 @@ pub enum Position {
 }
 
 // The vehicle of an address or of a place, where there is one.
-#[derive(Drop)]
+#[derive(Clone, Copy)]
 pub enum Vehicle {
     At(Position),
     NoVehicle,
 }
 
 // The own position, taken after the predecessor's address.
-#[derive(Drop)]
+#[derive(Clone, Copy)]
 pub enum AddressTaken {
     Own(Position),
     Refused(Refusal),
@@ -30,7 +30,7 @@ pub enum AddressTaken {
 
 // The same in numbers: the refusal, 0 for none, and the own position, 0 where refused.
 #[repr(C)]
-#[derive(Drop)]
+#[derive(Clone, Copy)]
 pub struct AddressTakenTold {
     pub refusal: u8,
     pub own: u8,

@@ -7,7 +7,7 @@ use crate::kind::{Kind, high_byte, physical, whole};
 use identifiers::Refusal;
 
 // A physical value, or why there is none.
-#[derive(Drop)]
+#[derive(Clone, Copy)]
 pub enum Reading {
     Value(f32),
     Reserved,
@@ -18,13 +18,13 @@ pub enum Reading {
 }
 
 // The reading, and beside it the raw number plus offset times divisor: 0 where there is no value.
-#[derive(Drop)]
+#[derive(Clone, Copy)]
 pub struct Measured {
     pub reading: Reading,
     pub whole: i32,
 }
 
-#[derive(Drop)]
+#[derive(Clone, Copy)]
 pub enum ParameterRead {
     Read(Measured),
     Refused(Refusal),
@@ -33,7 +33,7 @@ pub enum ParameterRead {
 // The same in numbers: the refusal, 0 for none; the outcome, 0 value, 1 reserved, 2 error, 3 not available, 4 beyond range,
 // 5 indicator; the value and the whole number.
 #[repr(C)]
-#[derive(Drop)]
+#[derive(Clone, Copy)]
 pub struct ParameterReadTold {
     pub refusal: u8,
     pub outcome: u8,
@@ -41,7 +41,7 @@ pub struct ParameterReadTold {
     pub whole: i32,
 }
 
-#[derive(Drop)]
+#[derive(Clone, Copy)]
 pub enum TwoBits {
     No,
     Yes,
@@ -49,7 +49,7 @@ pub enum TwoBits {
     NotAvailable,
 }
 
-#[derive(Drop)]
+#[derive(Clone, Copy)]
 pub enum TwoBitsRead {
     Read(TwoBits),
     Refused(Refusal),
@@ -57,7 +57,7 @@ pub enum TwoBitsRead {
 
 // The same in numbers: the refusal, 0 for none; and 0 no, 1 yes, 2 error, 3 not available.
 #[repr(C)]
-#[derive(Drop)]
+#[derive(Clone, Copy)]
 pub struct TwoBitsReadTold {
     pub refusal: u8,
     pub outcome: u8,

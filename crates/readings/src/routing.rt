@@ -6,27 +6,27 @@ use crate::position::{Position, Vehicle};
 use identifiers::{Identifier, IdentifierRead, Refusal, Target};
 
 // The neighbour from which a frame came.
-#[derive(Drop)]
+#[derive(Clone, Copy)]
 pub enum Side {
     Predecessor,
     Successor,
 }
 
 // The neighbour to which a frame is sent on.
-#[derive(Drop)]
+#[derive(Clone, Copy)]
 pub enum Onward {
     Nowhere,
     ToPredecessor,
     ToSuccessor,
 }
 
-#[derive(Drop)]
+#[derive(Clone, Copy)]
 pub struct Passage {
     pub kept: bool,
     pub onward: Onward,
 }
 
-#[derive(Drop)]
+#[derive(Clone, Copy)]
 pub enum Routed {
     Passed(Passage),
     Neither,
@@ -35,7 +35,7 @@ pub enum Routed {
 
 // The same in numbers: the refusal, 0 for none; kept; and sent on, 0 nowhere, 1 to the predecessor, 2 to the successor.
 #[repr(C)]
-#[derive(Drop)]
+#[derive(Clone, Copy)]
 pub struct RoutedTold {
     pub refusal: u8,
     pub kept: bool,

@@ -6,7 +6,7 @@ use identifiers::{Identifier, IdentifierRead, Refusal};
 use readings::{Position, Vehicle};
 
 // A frame refused by checks 2 to 8, or its vehicle, and whether it is functional.
-#[derive(Drop)]
+#[derive(Clone, Copy)]
 pub enum Addressing {
     Refused(Refusal),
     From { from: Position, functional: bool },

@@ -8,7 +8,7 @@ use identifiers::{Answer, Identifier, IdentifierWritten, Refusal};
 use readings::{Position, Vehicle};
 
 // A frame: its identifier and its first `length` data bytes; or why there is none, and then all else is 0.
-#[derive(Drop)]
+#[derive(Clone, Copy)]
 pub struct FrameCut {
     pub answer: Answer,
     pub identifier: u32,
@@ -17,7 +17,7 @@ pub struct FrameCut {
 }
 
 #[repr(C)]
-#[derive(Drop)]
+#[derive(Clone, Copy)]
 pub struct FrameCutTold {
     pub refusal: u8,
     pub length: u8,

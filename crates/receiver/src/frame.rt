@@ -7,7 +7,7 @@ use identifiers::Refusal;
 use readings::Position;
 
 // A frame refused by checks 2 to 10, or from whom it is and what it carries.
-#[derive(Drop)]
+#[derive(Clone, Copy)]
 pub enum Judged {
     Refused(Refusal),
     Single {

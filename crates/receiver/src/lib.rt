@@ -1,4 +1,6 @@
 // The receiver and the cutter: the node's state, one frame received, the shown message, flow control, one frame cut.
+#![tactic(auto)]
+
 mod addressing;
 mod bytes;
 mod cutter;

@@ -6,7 +6,7 @@ use crate::reception::region;
 use identifiers::Refusal;
 use readings::Position;
 
-#[derive(Drop)]
+#[derive(Clone, Copy)]
 pub enum Outcome {
     Refused(Refusal),
     OverLong {
@@ -29,7 +29,7 @@ pub enum Outcome {
     },
 }
 
-#[derive(Drop)]
+#[derive(Clone, Copy)]
 pub enum Control {
     Continue,
     Overflow,
@@ -38,7 +38,7 @@ pub enum Control {
 // The outcome in numbers: the refusal, 0 for none; what is handed out, 0 nothing, 1 a single frame, 2 a train; from whom, functional or not, where the message
 // starts in the frame's data or in the buffer, its length; and the control that is due to that vehicle, 0 none, 1 continue, 2 overflow.
 #[repr(C)]
-#[derive(Drop)]
+#[derive(Clone, Copy)]
 pub struct OutcomeTold {
     pub refusal: u8,
     pub handed_out: u8,

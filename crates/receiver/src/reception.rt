@@ -10,7 +10,7 @@ use readings::Position;
 // The bytes of a reception buffer: 256 for each position.
 pub const BUFFER: usize = 1536;
 
-#[derive(Drop)]
+#[derive(Clone, Copy)]
 pub struct Reception {
     pub length: u32,
     pub taken: u32,

@@ -14,7 +14,7 @@ use identifiers::Refusal;
 use readings::Position;
 
 // What a frame does: its vehicle's reception afterwards, and its outcome in numbers.
-#[derive(Drop)]
+#[derive(Clone, Copy)]
 pub struct StepTold {
     pub reception: Reception,
     pub outcome: OutcomeTold,

@@ -111,7 +111,7 @@ pub fn put_report<'a>(
 }
 
 // Which statuses are cleared: that at one place, or the first so many.
-#[derive(Drop)]
+#[derive(Clone, Copy)]
 pub enum Cleared {
     At(usize),
     First(usize),

@@ -1,4 +1,6 @@
 // The server: the trailer record, and services 14, 19, 22 and 3E over it.
+#![tactic(auto)]
+
 mod answers;
 mod checks;
 mod data_identifiers;

@@ -3,7 +3,7 @@ ghost use Rattle.std.specs.Prelude.{◌≡◌, ◌<◌, ◌≤◌, length};
 ghost use Rattle.server.specs.Requests.{mask_of, group_of, sized, form_of_14, form_of_19, form_of_22, form_of_3e, request_of};
 
 // The checks that fail, then each request of document 01 with its numbers, `silent` where bit 7 of its sub-function is set.
-#[derive(Drop)]
+#[derive(Clone, Copy)]
 pub enum Request {
     UnknownService,
     TooShort,

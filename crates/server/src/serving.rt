@@ -16,7 +16,7 @@ use crate::silence::silent_on;
 use crate::trailer::{TrailerRecord, sound_record};
 use identifiers::Refusal;
 
-#[derive(Drop)]
+#[derive(Clone, Copy)]
 pub enum Reply {
     Refused(Refusal),
     Silent,
@@ -24,7 +24,7 @@ pub enum Reply {
 }
 
 // What a request leaves behind: of the record only the statuses can change.
-#[derive(Drop)]
+#[derive(Clone, Copy)]
 pub struct Served {
     pub statuses: [u8; 63],
     pub reply: Reply,
@@ -32,7 +32,7 @@ pub struct Served {
 
 // The reply in numbers: the refusal, 0 for none; is it silent; how many bytes are sent.
 #[repr(C)]
-#[derive(Drop)]
+#[derive(Clone, Copy)]
 pub struct ReplyTold {
     pub refusal: u8,
     pub silent: bool,
@@ -70,7 +70,7 @@ fn wrong_lengths(request: usize, response: usize) -> bool
 }
 
 // What a request comes to: the reply, and which statuses it clears.
-#[derive(Drop)]
+#[derive(Clone, Copy)]
 struct Settled {
     reply: Reply,
     cleared: Cleared,

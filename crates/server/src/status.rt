@@ -8,7 +8,7 @@ use crate::trailer::{TrailerRecord, sound_record, status_within};
 use identifiers::{Answer, Refusal};
 
 // What a setting leaves behind: of the record only the statuses can change.
-#[derive(Drop)]
+#[derive(Clone, Copy)]
 pub struct StatusSet {
     pub statuses: [u8; 63],
     pub answer: Answer,

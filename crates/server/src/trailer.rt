@@ -9,7 +9,7 @@ use identifiers::{Answer, Refusal};
 
 // The places past count, past held, and past a datum's length are free. Each identifier has 32 bytes of room.
 #[repr(C)]
-#[derive(Drop)]
+#[derive(Clone, Copy)]
 pub struct TrailerRecord {
     pub codes: [u32; 63],
     pub statuses: [u8; 63],

@@ -2,7 +2,7 @@
 ghost use Rattle.std.specs.Prelude.{◌≡◌};
 ghost use Rattle.sheet.specs.Basis.{basis_of};
 
-#[derive(Drop)]
+#[derive(Clone, Copy)]
 pub enum Basis {
     None,
     Full,

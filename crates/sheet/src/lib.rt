@@ -1,4 +1,6 @@
 // The count sheet: its input read field by field, and its text, or the page of one mask, printed into a lent page.
+#![tactic(auto)]
+
 mod basis;
 mod fields;
 mod line;

@@ -7,7 +7,7 @@ use crate::fields::pair;
 // How many bytes a reading has: three fields of 4, 4 and 9.
 pub const READING_SIZE: usize = 17;
 
-#[derive(Drop)]
+#[derive(Clone, Copy)]
 pub struct CountReading {
     pub position: u8,
     pub mask: u8,

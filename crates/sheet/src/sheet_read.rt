@@ -4,7 +4,7 @@ ghost use Rattle.sheet.specs.Sheets.{sheet_read_told};
 
 use identifiers::Refusal;
 
-#[derive(Drop)]
+#[derive(Clone, Copy)]
 pub enum SheetRead {
     Accepted,
     Refused(Refusal, usize),
@@ -12,7 +12,7 @@ pub enum SheetRead {
 
 // The answer in numbers: the refusal, 0 for none, and the offset, 0 where accepted.
 #[repr(C)]
-#[derive(Drop)]
+#[derive(Clone, Copy)]
 pub struct SheetReadTold {
     pub refusal: u8,
     pub offset: usize,

@@ -1,4 +1,6 @@
 // Numbers as text: put into a lent buffer where they fit, and read out of digits.
+#![tactic(auto)]
+
 mod putting;
 mod reading;
 

@@ -4,7 +4,7 @@ ghost use Rattle.identifiers.specs.Choice.{pick};
 ghost use Rattle.text.specs.Digits.{digit_value};
 ghost use Rattle.text.specs.Reading.{digits_read};
 
-#[derive(Drop)]
+#[derive(Clone, Copy)]
 pub enum DigitsRead {
     Number(u32),
     NoNumber,

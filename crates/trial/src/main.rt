@@ -1,4 +1,6 @@
 // trial: its two words, and the bytes and lines of standard input counted, as one line on standard output.
+#![tactic(auto)]
+
 ghost use Rattle.std.specs.Prelude.{◌≡◌, true, ◌+◌, ◌^◌, ◌≤◌, ◌<◌, ◌++◌, length};
 ghost use Rattle.identifiers.specs.Bytes.{Puts};
 ghost use Rattle.text.specs.Digits.{decimal, blank, newlines};
@@ -8,19 +10,19 @@ use input::Input;
 use text::DigitsRead;
 
 // What the words ask for; OWN is 1 to 5.
-#[derive(Drop)]
+#[derive(Clone, Copy)]
 enum Asked {
     Words { mask: u8, own: usize },
     Other,
 }
 
-#[derive(Drop)]
+#[derive(Clone, Copy)]
 struct Counted {
     bytes: usize,
     lines: usize,
 }
 
-#[derive(Drop)]
+#[derive(Clone, Copy)]
 enum Counting {
     Done(Counted),
     Failed,

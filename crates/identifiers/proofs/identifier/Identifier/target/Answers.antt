@@ -1,0 +1,14 @@
+-- `Identifier::target` meets its contract: by the one test.
+use mathlib.Core.Path.{refl}
+use borrow.Author.Tests.{lt-ltb, le-ltb}
+use Rattle.identifiers.specs.Identifiers.{target_of}
+use Rattle.identifiers.proofs.LawsChoice.{taken, passed}
+use Rattle.identifiers.proofs.identifier.Identifier.target.Goals as goal
+
+pub returns-then-self-lt240 : goal.returns-then-self-lt240
+unfolding target_of
+returns-then-self-lt240 c = taken _ (lt-ltb _ _ c.if-self-lt240.true) refl
+
+pub returns : goal.returns
+unfolding target_of
+returns c = passed _ (le-ltb _ _ c.if-self-lt240.false) refl
