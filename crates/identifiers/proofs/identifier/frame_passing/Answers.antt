@@ -1,6 +1,5 @@
 -- `frame_passing` meets its contract: each return stands at its rung of `frame_passing`.
 use mathlib.Core.Path.{sym}
-use borrow.Author.Rules.{rules}
 use Rattle.identifiers.specs.Identifiers.{reserved_bit, fields_of}
 use Rattle.identifiers.proofs.LawsIdentifiers.{passing-2, passing-3, passing-fields}
 use Rattle.identifiers.proofs.identifier.frame_passing.Goals as goal

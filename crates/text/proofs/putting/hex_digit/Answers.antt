@@ -1,6 +1,5 @@
 -- `hex_digit` meets its contract: by the one test.
 use mathlib.Core.Path.{refl}
-use borrow.Author.Rules.{rules}
 use borrow.Author.Tests.{lt-ltb, le-ltb}
 use Rattle.identifiers.proofs.LawsChoice.{taken, passed}
 use Rattle.text.specs.Digits.{hex_digit}

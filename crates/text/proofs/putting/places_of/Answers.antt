@@ -1,10 +1,5 @@
 -- `places_of` meets its contract: the places counted and those of the rest are together the number's.
-use mathlib.Core.Path.{◌≡◌}
-use Prim.Native.Nat.{◌+◌}
 use native.Mathlib.Omega.{arith}
-use borrow.Author.Rules.{rules}
-use lib.ListN.{length}
-use Rattle.text.specs.Digits.{decimal}
 use Rattle.text.proofs.LawsDigits.{length-decimal, length-one, length_more}
 use Rattle.text.proofs.putting.places_of.Goals as goal
 

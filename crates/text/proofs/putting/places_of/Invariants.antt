@@ -1,10 +1,7 @@
 use mathlib.Core.Path.{◌≡◌}
 use Prim.Native.Nat.{◌+◌}
-use native.Mathlib.Omega.{arith}
-use borrow.Author.Rules.{rules}
 use lib.ListN.{length}
 use Rattle.text.specs.Digits.{decimal}
-use Rattle.text.proofs.LawsDigits.{length-decimal, length-one, length_more}
 use Rattle.text.proofs.putting.places_of.Given as goal
 
 abbrev pub invariant-loop-rest : goal.invariant-loop-rest

@@ -1,11 +1,8 @@
 -- `put` meets its contract: after i turns the first i bytes of the text stand in the buffer.
 use mathlib.Core.Path.{refl, sym}
-use Prim.Native.Nat.{◌+◌, ◌-◌, ◌≤◌}
 use native.Mathlib.Omega.{arith}
 use borrow.Author.Rules.{rules}
-use lib.ListN.{length, take}
 use lib.Seq.{take_all}
-use Rattle.identifiers.specs.Bytes.{Puts}
 use Rattle.identifiers.proofs.LawsBytes.{written_none, copy_more, keeps-length}
 use Rattle.text.proofs.LawsPutting.{room-is, room-is-not, puts-fitting, puts-nothing}
 use Rattle.text.proofs.putting.put.Goals as goal

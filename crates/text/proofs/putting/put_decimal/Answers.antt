@@ -1,10 +1,8 @@
 -- `put_decimal` meets its contract: with the digits of the rest in front of those that stand already, all stand.
-use Prim.Native.Nat.{◌+◌, ◌≤◌, ◌<◌}
 use native.Mathlib.Omega.{arith}
-use borrow.Author.Rules.{rules}
-use lib.ListN.{length, length-set}
+use lib.ListN.{length-set}
 use Rattle.text.proofs.LawsDigits.{length_some}
-use Rattle.text.proofs.LawsPutting.{room-is, room-is-not, puts-fitting, puts-nothing, ToPut, to-put-first, to-put-length, to-put-some, to-put-more, to-put-done}
+use Rattle.text.proofs.LawsPutting.{room-is, room-is-not, puts-fitting, puts-nothing, to-put-first, to-put-length, to-put-some, to-put-more, to-put-done}
 use Rattle.text.proofs.putting.put_decimal.Goals as goal
 
 pub returns-then-not-room : goal.returns-then-not-room

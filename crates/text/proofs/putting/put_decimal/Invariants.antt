@@ -1,9 +1,6 @@
 use Prim.Native.Nat.{◌+◌, ◌≤◌, ◌<◌}
-use native.Mathlib.Omega.{arith}
-use borrow.Author.Rules.{rules}
-use lib.ListN.{length, length-set}
-use Rattle.text.proofs.LawsDigits.{length_some}
-use Rattle.text.proofs.LawsPutting.{room-is, room-is-not, puts-fitting, puts-nothing, ToPut, to-put-first, to-put-length, to-put-some, to-put-more, to-put-done}
+use lib.ListN.{length}
+use Rattle.text.proofs.LawsPutting.{ToPut}
 use Rattle.text.proofs.putting.put_decimal.Given as goal
 
 abbrev pub invariant-loop-rest : goal.invariant-loop-rest

@@ -1,7 +1,6 @@
 -- `put_hex` meets its contract: the two digits in two stores.
 use mathlib.Core.Path.{refl}
 use native.Mathlib.Omega.{arith}
-use borrow.Author.Rules.{rules}
 use lib.ListN.{length-set}
 use Rattle.identifiers.proofs.LawsBytes.{puts-byte, ◌▸◌}
 use Rattle.text.specs.Digits.{hex}

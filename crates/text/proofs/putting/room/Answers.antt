@@ -1,7 +1,6 @@
 -- `room` meets its contract: by the one test, then what is left of the buffer.
 use mathlib.Core.Path.{sym}
 use native.Mathlib.Omega.{arith}
-use borrow.Author.Rules.{rules}
 use Rattle.text.proofs.LawsPutting.{no_room, room-asked}
 use Rattle.text.proofs.putting.room.Goals as goal
 

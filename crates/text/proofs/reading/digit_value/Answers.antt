@@ -1,6 +1,5 @@
 -- `digit_value` meets its contract: the arithmetic gives every byte its value.
 use native.Mathlib.Omega.{arith}
-use borrow.Author.Rules.{rules}
 use Rattle.text.proofs.LawsValue.{letter-below, quick-value}
 use Rattle.text.proofs.reading.digit_value.Goals as goal
 

@@ -1,10 +1,7 @@
 -- `read_digits` meets its contract: what the text says is what the digits to come say behind the number read so far.
-use Prim.Native.Nat.{◌-◌, ◌^◌, ◌≤◌, ◌<◌}
 use native.Mathlib.Nat.{mul-le-mul_left}
 use native.Mathlib.Omega.{arith}
-use borrow.Author.Rules.{rules}
-use lib.ListN.{length}
-use Rattle.text.proofs.LawsReading.{ReadSoFar, reading-first, reading-more, reading-stop, reading-large, reading-done, other_length}
+use Rattle.text.proofs.LawsReading.{reading-first, reading-more, reading-stop, reading-large, reading-done, other_length}
 use Rattle.text.proofs.reading.read_digits.Goals as goal
 
 pub returns-then-text-places : goal.returns-then-text-places

@@ -1,9 +1,6 @@
 use Prim.Native.Nat.{◌-◌, ◌^◌, ◌≤◌, ◌<◌}
-use native.Mathlib.Nat.{mul-le-mul_left}
-use native.Mathlib.Omega.{arith}
-use borrow.Author.Rules.{rules}
 use lib.ListN.{length}
-use Rattle.text.proofs.LawsReading.{ReadSoFar, reading-first, reading-more, reading-stop, reading-large, reading-done, other_length}
+use Rattle.text.proofs.LawsReading.{ReadSoFar}
 use Rattle.text.proofs.reading.read_digits.Given as goal
 
 abbrev pub invariant-loop-i : goal.invariant-loop-i

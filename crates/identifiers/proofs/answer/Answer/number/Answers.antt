@@ -1,6 +1,5 @@
 -- `Answer::number` meets its contract: the refusal's number.
 use mathlib.Core.Path.{sym, ap, ◌∙◌}
-use borrow.Author.Rules.{rules}
 use Rattle.identifiers.specs.Answers.{answer_number}
 use Rattle.identifiers.proofs.answer.Answer.number.Goals as goal
 

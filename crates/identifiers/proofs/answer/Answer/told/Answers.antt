@@ -1,6 +1,5 @@
 -- `Answer::told` meets its contract: the number is the refusal told.
 use mathlib.Core.Path.{refl}
-use borrow.Author.Rules.{rules}
 use Rattle.identifiers.specs.Answers.{answer_told}
 use Rattle.identifiers.proofs.answer.Answer.told.Goals as goal
 

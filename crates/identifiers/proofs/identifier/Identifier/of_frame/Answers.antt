@@ -1,6 +1,5 @@
 -- `Identifier::of_frame` meets its contract: what passes is read unless R is set, and what is refused stays so.
 use mathlib.Core.Path.{sym, ◌∙◌}
-use borrow.Author.Rules.{rules}
 use Rattle.identifiers.proofs.LawsIdentifiers.{read-refused, read-4, read-fields}
 use Rattle.identifiers.proofs.identifier.Identifier.of_frame.Goals as goal
 

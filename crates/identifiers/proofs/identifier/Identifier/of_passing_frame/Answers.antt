@@ -1,5 +1,4 @@
 -- `Identifier::of_passing_frame` meets its contract: the checks go by how many data bytes there are.
-use borrow.Author.Rules.{rules}
 use Rattle.identifiers.proofs.identifier.Identifier.of_passing_frame.Goals as goal
 
 pub returns : goal.returns

@@ -1,5 +1,4 @@
 -- `Identifier::read` meets its contract: a number alone is read as that of a frame without data.
-use borrow.Author.Rules.{rules}
 use Rattle.identifiers.specs.Identifiers.{read_of}
 use Rattle.identifiers.proofs.identifier.Identifier.read.Goals as goal
 

@@ -1,7 +1,6 @@
 -- `Identifier::write` meets its contract: the sum in u32 is the formula.
 use mathlib.Core.Path.{sym, ap, ◌∙◌}
 use native.Mathlib.Omega.{arith}
-use borrow.Author.Rules.{rules}
 use Rattle.identifiers.specs.Identifiers.{formula}
 use Rattle.identifiers.specs.declared.identifier.IdentifierWritten.TheVariants.{Number}
 use Rattle.identifiers.proofs.LawsInverse.{wide-priority, wide-reserved, wide-page, write-16, write-number}

@@ -1,6 +1,5 @@
 -- `IdentifierRead::told` meets its contract: the numbers of each case.
 use mathlib.Core.Path.{sym, ap}
-use borrow.Author.Rules.{rules}
 use Rattle.identifiers.specs.Identifiers.{read_told}
 use Rattle.identifiers.proofs.identifier.IdentifierRead.told.Goals as goal
 

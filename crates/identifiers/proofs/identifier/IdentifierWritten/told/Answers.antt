@@ -1,6 +1,5 @@
 -- `IdentifierWritten::told` meets its contract: the numbers of each case.
 use mathlib.Core.Path.{sym, ap}
-use borrow.Author.Rules.{rules}
 use Rattle.identifiers.specs.Identifiers.{written_told}
 use Rattle.identifiers.proofs.identifier.IdentifierWritten.told.Goals as goal
 

@@ -1,6 +1,5 @@
 -- `Refusal::number` meets its contract: each arm is taken at one case, whose number it is.
 use mathlib.Core.Path.{sym, ap}
-use borrow.Author.Rules.{rules}
 use Rattle.identifiers.specs.Refusals.{number_of}
 use Rattle.identifiers.proofs.refusal.Refusal.number.Goals as goal
 

@@ -1,0 +1,33 @@
+-- `put_report` meets its contract: what is put so far is what the codes passed have to report.
+use mathlib.Core.Path.{◌≡◌, sym, ◌∙◌}
+use mathlib.Core.Logic.{⊎_elim}
+use Prim.Native.Nat.{ℕ, ◌+◌, ◌*◌, ◌-◌, ◌≤◌}
+use native.Mathlib.Omega.{arith}
+use borrow.Author.Rules.{rules}
+use lib.ListN.{get_or}
+use Rattle.identifiers.specs.Below.{list_below}
+use Rattle.identifiers.specs.Bytes.{Puts}
+use Rattle.identifiers.proofs.LawsBelow.{list-none}
+use Rattle.identifiers.proofs.LawsBytes.{puts_none, keeps-length, turn, turn-none}
+use Rattle.server.specs.Faults.{code_and_status, reported}
+use Rattle.server.proofs.LawsFaults.{reported-hit, reported-miss}
+use Rattle.server.proofs.faults.put_report.Goals as goal
+
+pub loop-i-init : goal.loop-i-init
+loop-i-init c = (search rules, (omega arith, rw (list-none _) (puts_none _ _)))
+
+pub put_code_and_status-at-requires : goal.put_code_and_status-at-requires
+put_code_and_status-at-requires c = omega (arith, keeps-length c.loop-i.invariant.1.1)
+
+pub loop-i-preserved : goal.loop-i-preserved
+unfolding code_and_status
+loop-i-preserved c =
+    let l = c.loop-i in
+    ⊎_elim (λ w. (search rules, (omega (arith, w.7, w.3.ensures.ends), rw (w.7, w.6) (turn _ _ l.invariant.1.1 (reported-hit _ _ _ _ (sym c.is_listed.ensures ∙ w.0.taken)) w.3.ensures))))
+    (λ w. (search rules, (omega (arith, w.2), rw (w.2, w.1) (turn-none _ _ l.invariant.1.1 (reported-miss _ _ _ _ (sym c.is_listed.ensures ∙ w.0.left)))))) c.if-is_listed.branch
+
+pub shape_of-response : goal.shape_of-response
+shape_of-response c = keeps-length c.loop-i.invariant.1.1
+
+pub returns : goal.returns
+returns c = let e : c.args.count ≡ c.loop-i.i = omega arith in rw e c.loop-i.invariant.1.1

@@ -1,0 +1,38 @@
+-- `cleared_by` meets its contract: what the group clears where one is to be cleared, else nothing.
+use mathlib.Core.Path.{◌≡◌, refl}
+use mathlib.Core.Bool.{not}
+use mathlib.Core.List.{List, [], ◌∷◌}
+use Prim.Native.Nat.{ℕ}
+use lib.Dec.{T}
+use mir.Val.{has_key}
+use types.Run.{OneOf, miss}
+use denote.Enum.Declared.{tag_of}
+use borrow.Author.Rules.{rules}
+use Rattle.server.specs.Faults.{cleared_of}
+use Rattle.server.specs.Server.{changed_by}
+use Rattle.server.specs.declared.trailer.TrailerRecord.{TrailerRecord}
+use Rattle.server.specs.declared.requests.Request.{Request}
+use Rattle.server.proofs.LawsCleared.{none-reach, none-cleared}
+use Rattle.server.specs.contracts.requests.Request.{the_type}
+use Rattle.server.proofs.serving.cleared_by.Goals as goal
+
+-- a request that clears no group changes nothing
+unchanged : (t : TrailerRecord) (asked : Request) (ks : List ℕ) → T (not (has_key ks 4)) → OneOf ks (tag_of the_type asked) → t ≡ changed_by t asked
+unfolding changed_by
+unchanged t Request.UnknownService ks n k = refl
+unchanged t Request.TooShort ks n k = refl
+unchanged t Request.UnknownSubFunction ks n k = refl
+unchanged t Request.WrongLength ks n k = refl
+unchanged t (Request.ClearGroup group) ks n k = absurd (miss ks 4 n k)
+unchanged t (Request.CountByMask silent mask) ks n k = refl
+unchanged t (Request.ListByMask silent mask) ks n k = refl
+unchanged t (Request.ListAll silent) ks n k = refl
+unchanged t Request.ReadData ks n k = refl
+unchanged t (Request.TesterPresent silent) ks n k = refl
+
+pub returns-in-ClearGroup : goal.returns-in-ClearGroup
+unfolding changed_by cleared_of
+returns-in-ClearGroup c = (c.cleared_by_group.ensures.0, λ statuses availability identifiers lengths bytes held. rw (c.cleared_by_group.ensures.1, c.in-ClearGroup.is))
+
+pub returns : goal.returns
+returns c = (none-reach refl, λ statuses availability identifiers lengths bytes held. rw (none-cleared refl) (unchanged _ _ (0 ∷ 1 ∷ 2 ∷ 3 ∷ 5 ∷ 6 ∷ 7 ∷ 8 ∷ 9 ∷ []) tt c.in_default.keys2))

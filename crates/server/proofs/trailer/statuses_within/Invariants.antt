@@ -1,0 +1,16 @@
+use mathlib.Core.Path.{◌≡◌, sym, ◌∙◌}
+use Prim.Native.Nat.{ℕ, ◌-◌, ◌≤◌}
+use native.Mathlib.Omega.{arith}
+use borrow.Author.Rules.{rules}
+use lib.ListN.{get_or}
+use Rattle.identifiers.specs.Below.{all_below}
+use Rattle.identifiers.proofs.LawsBelow.{all_none, all-turn}
+use Rattle.server.specs.Trailer.{status_within}
+use Rattle.server.proofs.LawsTrailer.{none_within, both-within}
+use Rattle.server.proofs.trailer.statuses_within.Given as goal
+
+abbrev pub invariant-loop-i : goal.invariant-loop-i
+invariant-loop-i l = (l.i ≤ l.count) × (status_within l.availability l.bits ≡ all_below (λ (m : ℕ). status_within l.availability (get_or l.statuses m 0)) l.i)
+
+abbrev pub decreases-loop-i : goal.decreases-loop-i
+decreases-loop-i l = l.count - l.i
