@@ -15,4 +15,4 @@ returns-then-kind-raw c = taken _ (lt-ltb _ _ c.if-kind-raw.true) c.without_valu
 
 pub returns : goal.returns
 returns c =
-    rw (c.physical-value.ensures, to_z-of_z {w = w32} (sfits_of c.whole.type-inv), c.whole.ensures) (sym (value-of c.args.kind c.args.raw c.if-kind-raw.false))
+    rw (c.physical-value.ensures, to_z-of_z {w = w32} (sfits_of c.whole.type_inv), c.whole.ensures) (sym (value-of c.args.kind c.args.raw c.if-kind-raw.false))

@@ -7,25 +7,32 @@ use Rattle.readings.proofs.LawsPositions.{position_past}
 use Rattle.readings.proofs.position.Position.at.Goals as goal
 
 pub returns-in_default : goal.returns-in_default
+unfolding position_at
 returns-in_default c =
-    let r = c.in_default.rest in
+    let r = c.in_default.in_default-own.rest in
     let low : 3 ≤ c.args.place = omega (arith, r.0.0.0.0.0.1, r.0.0.0.0.1, r.0.0.0.1) in
     sym (position_past c.args.place (omega (arith, r.0.0.1, r.0.1, r.1)))
 
 pub returns-in-0 : goal.returns-in-0
+unfolding position_at
 returns-in-0 c = ap position_at (sym c.in-0.is)
 
 pub returns-in-1 : goal.returns-in-1
+unfolding position_at
 returns-in-1 c = ap position_at (sym c.in-1.is)
 
 pub returns-in-2 : goal.returns-in-2
+unfolding position_at
 returns-in-2 c = ap position_at (sym c.in-2.is)
 
 pub returns-in-3 : goal.returns-in-3
+unfolding position_at
 returns-in-3 c = ap position_at (sym c.in-3.is)
 
 pub returns-in-4 : goal.returns-in-4
+unfolding position_at
 returns-in-4 c = ap position_at (sym c.in-4.is)
 
 pub returns-in-5 : goal.returns-in-5
+unfolding position_at
 returns-in-5 c = ap position_at (sym c.in-5.is)

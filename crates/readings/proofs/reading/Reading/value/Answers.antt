@@ -4,16 +4,21 @@ use lib.Ieee.{of_bits}
 use Rattle.readings.proofs.reading.Reading.value.Goals as goal
 
 pub returns-in-Reserved : goal.returns-in-Reserved
-returns-in-Reserved c = rw c.in-Reserved.is
+unfolding of_bits
+returns-in-Reserved c = search rules
 
 pub returns-in-Error : goal.returns-in-Error
-returns-in-Error c = rw c.in-Error.is
+unfolding of_bits
+returns-in-Error c = search rules
 
 pub returns-in-NotAvailable : goal.returns-in-NotAvailable
-returns-in-NotAvailable c = rw c.in-NotAvailable.is
+unfolding of_bits
+returns-in-NotAvailable c = search rules
 
 pub returns-in-BeyondRange : goal.returns-in-BeyondRange
-returns-in-BeyondRange c = rw c.in-BeyondRange.is
+unfolding of_bits
+returns-in-BeyondRange c = search rules
 
 pub returns-in-Indicator : goal.returns-in-Indicator
-returns-in-Indicator c = rw c.in-Indicator.is
+unfolding of_bits
+returns-in-Indicator c = search rules
