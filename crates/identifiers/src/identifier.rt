@@ -17,6 +17,9 @@ const PF_WEIGHT: u32 = 1 << 16;
 
 const PS_WEIGHT: u32 = 1 << 8;
 
+// The first PF whose PS is a group extension.
+const FIRST_GROUP: u8 = 240;
+
 // P, R, DP, PF, PS and SA.
 #[repr(C)]
 #[derive(Clone, Copy)]
@@ -140,7 +143,7 @@ impl Identifier {
     pub fn target(self) -> Target
         ensures { result ≡ target_of self }
     {
-        if self.format < 240 {
+        if self.format < FIRST_GROUP {
             return Target::Destination(self.specific);
         }
         Target::GroupExtension(self.specific)

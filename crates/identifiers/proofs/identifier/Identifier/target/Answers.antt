@@ -5,10 +5,10 @@ use Rattle.identifiers.specs.Identifiers.{target_of}
 use Rattle.identifiers.proofs.LawsChoice.{taken, passed}
 use Rattle.identifiers.proofs.identifier.Identifier.target.Goals as goal
 
-pub returns-then-self-lt240 : goal.returns-then-self-lt240
+pub returns-then-self-lt-FIRST_GROUP : goal.returns-then-self-lt-FIRST_GROUP
 unfolding target_of
-returns-then-self-lt240 c = taken _ (lt-ltb _ _ c.if-self-lt240.true) refl
+returns-then-self-lt-FIRST_GROUP c = taken _ (lt-ltb _ _ c.if-self-lt-FIRST_GROUP.true) refl
 
 pub returns : goal.returns
 unfolding target_of
-returns c = passed _ (le-ltb _ _ c.if-self-lt240.false) refl
+returns c = passed _ (le-ltb _ _ c.if-self-lt-FIRST_GROUP.false) refl
