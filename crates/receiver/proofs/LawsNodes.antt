@@ -46,7 +46,7 @@ module _ (n : Node) (p : ℕ) where
 
 -- ---- a fresh node: its own position and unit, and six receptions, all closed
 module _ (own unit : ℕ) where
-  pub fresh-own : (fresh_node own unit).own_val ≡ own
+  pub fresh-own : (fresh_node own unit).own ≡ own
   unfolding fresh_node
   fresh-own = refl
 
