@@ -4,6 +4,7 @@ ghost use Rattle.server.specs.Silence.{silenced, quiet_code, silent_on};
 
 use crate::requests::Request;
 
+#[tactic(auto, unfolding(crate::specs::Silence::silenced))]
 fn silenced(asked: Request) -> bool
     ensures { result ≡ silenced asked }
 {

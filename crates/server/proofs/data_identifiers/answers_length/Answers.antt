@@ -14,55 +14,36 @@ use Rattle.server.specs.DataIdentifiers.{asked_count, asked_at, answer_to, answe
 use Rattle.server.specs.declared.trailer.TrailerRecord.{TrailerRecord}
 use Rattle.server.proofs.LawsDataIdentifiers.{length-answer, answer-miss}
 use Rattle.server.proofs.data_identifiers.answers_length.Goals as goal
+use Rattle.server.proofs.data_identifiers.answers_length.Goals.{then-k-held, else-k-held}
 
--- TODO places
-abbrev invariant-loop : tie.invariant-loop
-invariant-loop identifiers lengths bytes held request count total₀ j₀ total j =
-    (j ≤ count) × ((total ≤ 257 * j) × (total ≡ length (list_below (λ i. answer_to (data_alone identifiers lengths bytes held) (asked_at request i)) j)))
+-- what the answer to the one that is asked at j adds, where it is held at k and where it is not
+module _ (t : TrailerRecord) (request : List ℕ) (j k identifier : ℕ) (place : k ≡ place_among t.identifiers t.held identifier) (same : identifier ≡ asked_at request j) where
+  abbrev below : ℕ → List ℕ
+  below = list_below (λ i. answer_to t (asked_at request i))
 
--- ---- the places
-module _ (c : tie.Start invariant-loop decreases-loop) where
-  abbrev t : TrailerRecord
-  t = data_alone c.args.identifiers.now c.args.lengths.now c.args.bytes.now c.args.held
+  stands : place_among t.identifiers t.held (asked_at request j) ≡ k
+  stands = sym (place ∙ ap (place_among t.identifiers t.held) same)
 
-  abbrev request : List ℕ
-  request = c.args.request.now
+  more : length (below (j + 1)) ≡ length (below j) + length (answer_to t (asked_at request j))
+  more = length_more (λ i. answer_to t (asked_at request i)) j
 
-  abbrev answer : ℕ → List ℕ
-  answer j = answer_to t (asked_at request j)
+  hit : k < t.held → length (below (j + 1)) ≡ length (below j) + (2 + get_or t.lengths k 0)
+  hit l = more ∙ ap (λ (n : ℕ). length (below j) + n) (length-answer t _ _ stands l)
 
-module _ (c : tie.After-place-among invariant-loop decreases-loop) where
-  abbrev entry : tie.Start invariant-loop decreases-loop
-  entry = c.before.before.before.before.before
+  miss : t.held ≤ k → length (below (j + 1)) ≡ length (below j)
+  miss l = let none : length (answer_to t (asked_at request j)) ≡ 0 = ap length (answer-miss t _ (rw stands l)) in more ∙ omega (arith, none)
 
-  abbrev j : ℕ
-  j = c.before.before.before.loop.j
-
-  stands : place_among (t entry).identifiers (t entry).held (asked_at (request entry) j) ≡ c.place-among.result
-  stands = sym (c.place-among.ensures ∙ ap (place_among (t entry).identifiers (t entry).held) c.before.asked.ensures)
-
-  more : length (list_below (answer entry) (j + 1)) ≡ length (list_below (answer entry) j) + length (answer entry j)
-  more = length_more (answer entry) j
-
-  hit : c.place-among.result < (t entry).held → length (answer entry j) ≡ 2 + get_or (t entry).lengths c.place-among.result 0
-  hit = length-answer (t entry) _ _ stands
-
-  miss : (t entry).held ≤ c.place-among.result → length (answer entry j) ≡ 0
-  miss l = ap length (answer-miss (t entry) _ (rw stands l))
-
--- ---- the needs
 pub loop-j-init : goal.loop-j-init
 loop-j-init c = (search rules, (search rules, rw (list-none _)))
 
--- TODO bare p
 pub loop-j-preserved : goal.loop-j-preserved
 loop-j-preserved c =
-    ⊎_elim
-    (λ w. (search rules, (omega (arith, w.3, w.2.ensures.1), omega (arith, w.3, w.2.ensures.0, more c, hit c w.0.taken))))
-    (λ w. (search rules, (omega (arith, w.1), omega (arith, w.1, more c, miss c w.0.left)))) c.if-k-held.branch
+    let t : TrailerRecord = data_alone c.args.identifiers.now c.args.lengths.now c.args.bytes.now c.args.held in
+    elim c.if-k-held.branch [
+      then-k-held w ↦ (search rules, (omega arith, omega (arith, hit t c.args.request.now c.loop-j.j _ _ c.place_among-k.ensures c.asked.ensures w.if-k-held.true)))
+    | else-k-held w ↦ (search rules, (omega arith, omega (arith, miss t c.args.request.now c.loop-j.j _ _ c.place_among-k.ensures c.asked.ensures w.if-k-held.false)))
+    ]
 
--- TODO c.before.before.before
 pub returns : goal.returns
 unfolding answers_of asked_count
-returns c =
-    let e : asked_count (request c) ≡ c.loop-j.j = omega arith in rw e c.loop-j.invariant.1.1
+returns c = let e : asked_count c.args.request.now ≡ c.loop-j.j = omega arith in rw e c.loop-j.invariant.1.1

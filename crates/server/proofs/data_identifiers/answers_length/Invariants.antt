@@ -14,5 +14,9 @@ use Rattle.server.specs.declared.trailer.TrailerRecord.{TrailerRecord}
 use Rattle.server.proofs.LawsDataIdentifiers.{length-answer, answer-miss}
 use Rattle.server.proofs.data_identifiers.answers_length.Given as goal
 
+abbrev pub invariant-loop-j : goal.invariant-loop-j
+invariant-loop-j l =
+    (l.j ≤ l.count) × ((l.total ≤ 257 * l.j) × (l.total ≡ length (list_below (λ i. answer_to (data_alone l.identifiers l.lengths l.bytes l.held) (asked_at l.request i)) l.j)))
+
 abbrev pub decreases-loop-j : goal.decreases-loop-j
 decreases-loop-j l = l.count - l.j

