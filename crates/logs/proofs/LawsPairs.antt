@@ -57,6 +57,12 @@ values-past (suc n) l at h =
 pub record Valued (l : List ℕ) (from : ℕ) (values : List ℕ) (i : ℕ) : Type 0 where
   pub put : values ≡ values_from i l from ++ replicate (16 - i) 16
 
+-- so many digits as there are from a place on, at most sixteen
+pub record Counted (l : List ℕ) (from count : ℕ) : Type 0 where
+  pub most : count ≤ 16
+  pub near : from + count ≤ length l
+  pub all : count < 16 → length l ≤ from + count
+
 pub valued-first : (l : List ℕ) (from : ℕ) → Valued l from (replicate 16 16) 0
 unfolding values_from
 valued-first l from = record { put = refl }

@@ -1,0 +1,15 @@
+use mathlib.Core.List.{List}
+use mathlib.Core.Logic.{⊎_elim}
+use Prim.Native.Nat.{ℕ, ◌-◌, ◌+◌, ◌≤◌, ◌<◌}
+use native.Mathlib.Omega.{arith}
+use borrow.Author.Rules.{rules}
+use lib.ListN.{length}
+use Rattle.logs.proofs.LawsFound.{value-small}
+use Rattle.logs.proofs.LawsPairs.{Counted, Valued, valued-first, valued-more, valued-done}
+use Rattle.logs.proofs.parts.values_from.Given as goal
+
+abbrev pub invariant-loop-i : goal.invariant-loop-i
+invariant-loop-i l = (l.i ≤ l.count) × Counted l.text l.from l.count × Valued l.text l.from l.values l.i
+
+abbrev pub decreases-loop-i : goal.decreases-loop-i
+decreases-loop-i l = l.count - l.i
