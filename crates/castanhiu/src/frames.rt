@@ -7,8 +7,7 @@ use identifiers::Refusal;
 use receiver::{Control, FrameCutTold, cut, flow_control, frame_count};
 
 // The control is 1 continue or 2 overflow: refusal 16 for another.
-#[unsafe(no_mangle)]
-pub extern "C" fn castanhiu_flow_control(control: u8, from: u8, to: u8, unit: u8) -> FrameCutTold
+pub fn castanhiu_flow_control(control: u8, from: u8, to: u8, unit: u8) -> FrameCutTold
     ensures { result ≡ cut_told (control_numbered control from to unit) }
 {
     if control == 1 {
@@ -25,15 +24,13 @@ pub extern "C" fn castanhiu_flow_control(control: u8, from: u8, to: u8, unit: u8
     }
 }
 
-#[unsafe(no_mangle)]
-pub extern "C" fn castanhiu_frame_count(total: usize) -> usize
+pub fn castanhiu_frame_count(total: usize) -> usize
     ensures { result ≡ frame_count total }
 {
     frame_count(total)
 }
 
-#[unsafe(no_mangle)]
-pub extern "C" fn castanhiu_cut(
+pub fn castanhiu_cut(
     message: &[u8],
     number: usize,
     from: u8,

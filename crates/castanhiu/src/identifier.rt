@@ -4,15 +4,13 @@ ghost use Rattle.identifiers.specs.Identifiers.{read_of, written_as, read_told, 
 
 use identifiers::{Identifier, IdentifierReadTold, IdentifierWrittenTold};
 
-#[unsafe(no_mangle)]
-pub extern "C" fn castanhiu_identifier_read(number: u32) -> IdentifierReadTold
+pub fn castanhiu_identifier_read(number: u32) -> IdentifierReadTold
     ensures { result ≡ read_told (read_of number) }
 {
     Identifier::read(number).told()
 }
 
-#[unsafe(no_mangle)]
-pub extern "C" fn castanhiu_identifier_write(fields: Identifier) -> IdentifierWrittenTold
+pub fn castanhiu_identifier_write(fields: Identifier) -> IdentifierWrittenTold
     ensures { result ≡ written_told (written_as fields) }
 {
     fields.write().told()

@@ -7,8 +7,7 @@ ghost use Rattle.logs.specs.Written.{line_written, text_after, line_told};
 
 use logs::{LogFrameTold, LogLineTold, TEXT, put_data, read_line, write_line};
 
-#[unsafe(no_mangle)]
-pub extern "C" fn castanhiu_log_read(line: &[u8], data: &mut [u8; 8]) -> LogFrameTold
+pub fn castanhiu_log_read(line: &[u8], data: &mut [u8; 8]) -> LogFrameTold
     ensures { (result ≡ frame_told (line_read line.now))
         × («data».new ≡ written «data».old 0 (take (line_read line.now).length (line_read line.now).«data»)) }
 {
@@ -18,8 +17,7 @@ pub extern "C" fn castanhiu_log_read(line: &[u8], data: &mut [u8; 8]) -> LogFram
     frame.told()
 }
 
-#[unsafe(no_mangle)]
-pub extern "C" fn castanhiu_log_write(
+pub fn castanhiu_log_write(
     identifier: u32,
     data: &[u8],
     stamp: u32,

@@ -5,8 +5,7 @@ ghost use Rattle.mending.specs.Mended.{mended_as, Mends, mended_told};
 use mending::{MendedTold, mend};
 use sheet::{MOST_INPUT, PAGE};
 
-#[unsafe(no_mangle)]
-pub extern "C" fn castanhiu_mend(
+pub fn castanhiu_mend(
     input: &[u8],
     kept: &mut [u8; MOST_INPUT],
     page: &mut [u8; PAGE],

@@ -7,30 +7,26 @@ ghost use Rattle.receiver.specs.Lent.{node_in, numbers_of, Receives, lent_taken,
 use identifiers::AnswerTold;
 use receiver::{NODE, OutcomeTold, fresh, receive, start, take_address};
 
-#[unsafe(no_mangle)]
-pub extern "C" fn castanhiu_start(node: &mut [u32; NODE], unit: u8)
+pub fn castanhiu_start(node: &mut [u32; NODE], unit: u8)
     ensures { node.new ≡ numbers_of (start_of unit) }
 {
     start(node, unit);
 }
 
-#[unsafe(no_mangle)]
-pub extern "C" fn castanhiu_fresh(node: &mut [u32; NODE], own: u8, unit: u8) -> AnswerTold
+pub fn castanhiu_fresh(node: &mut [u32; NODE], own: u8, unit: u8) -> AnswerTold
     ensures { (result ≡ answer_told (fresh_of own unit).answer) × (node.new ≡ stored node.old (fresh_of own unit)) }
 {
     fresh(node, own, unit).told()
 }
 
-#[unsafe(no_mangle)]
-pub extern "C" fn castanhiu_take_address(node: &mut [u32; NODE], source: u8) -> AnswerTold
+pub fn castanhiu_take_address(node: &mut [u32; NODE], source: u8) -> AnswerTold
     ensures { (result ≡ answer_told (lent_taken (node_in node.old) source).answer)
         × (node.new ≡ stored node.old (lent_taken (node_in node.old) source)) }
 {
     take_address(node, source).told()
 }
 
-#[unsafe(no_mangle)]
-pub extern "C" fn castanhiu_receive(
+pub fn castanhiu_receive(
     node: &mut [u32; NODE],
     buffer: &mut [u8],
     identifier: u32,

@@ -4,8 +4,7 @@ ghost use Rattle.sheet.specs.Ranked.{ranked_text};
 
 use sheet::{PAGE, rank};
 
-#[unsafe(no_mangle)]
-pub extern "C" fn castanhiu_ranking_text(input: &[u8], mask: u8, page: &mut [u8; PAGE]) -> usize
+pub fn castanhiu_ranking_text(input: &[u8], mask: u8, page: &mut [u8; PAGE]) -> usize
     ensures { Puts page.old 0 (ranked_text input.now mask) result page.new }
 {
     rank(input, mask, page)

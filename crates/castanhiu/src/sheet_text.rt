@@ -4,8 +4,7 @@ ghost use Rattle.sheet.specs.Printed.{printed};
 
 use sheet::{PAGE, print};
 
-#[unsafe(no_mangle)]
-pub extern "C" fn castanhiu_sheet_text(input: &[u8], page: &mut [u8; PAGE]) -> usize
+pub fn castanhiu_sheet_text(input: &[u8], page: &mut [u8; PAGE]) -> usize
     ensures { Puts page.old 0 (printed input.now) result page.new }
 {
     print(input, page)

@@ -9,15 +9,13 @@ ghost use Rattle.server.specs.Told.{reply_told};
 use identifiers::AnswerTold;
 use server::{ReplyTold, TrailerRecord, check, serve, set_status};
 
-#[unsafe(no_mangle)]
-pub extern "C" fn castanhiu_record_check(record: &TrailerRecord) -> AnswerTold
+pub fn castanhiu_record_check(record: &TrailerRecord) -> AnswerTold
     ensures { result ≡ answer_told (checked_as «record».now) }
 {
     check(*record).told()
 }
 
-#[unsafe(no_mangle)]
-pub extern "C" fn castanhiu_serve(
+pub fn castanhiu_serve(
     record: &mut TrailerRecord,
     request: &[u8],
     functional: bool,
@@ -32,8 +30,7 @@ pub extern "C" fn castanhiu_serve(
     served.reply.told()
 }
 
-#[unsafe(no_mangle)]
-pub extern "C" fn castanhiu_set_status(
+pub fn castanhiu_set_status(
     record: &mut TrailerRecord,
     code: u32,
     status: u8,

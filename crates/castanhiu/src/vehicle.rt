@@ -7,16 +7,14 @@ ghost use Rattle.castanhiu.specs.Numbers.{route_from};
 use identifiers::Refusal;
 use readings::{AddressTakenTold, Position, Routed, RoutedTold, Side, route};
 
-#[unsafe(no_mangle)]
-pub extern "C" fn castanhiu_position_after(source: u8) -> AddressTakenTold
+pub fn castanhiu_position_after(source: u8) -> AddressTakenTold
     ensures { result ≡ address_told (taken_after source) }
 {
     Position::after(source).told()
 }
 
 // The side is 0 the predecessor or 1 the successor: refusal 1 for another.
-#[unsafe(no_mangle)]
-pub extern "C" fn castanhiu_route(
+pub fn castanhiu_route(
     side: u8,
     own: u8,
     successor: bool,

@@ -1,0 +1,19 @@
+// The identifier, read and written.
+ghost use Rattle.std.specs.Prelude.{◌≡◌};
+ghost use Rattle.identifiers.specs.Identifiers.{read_of, written_as, read_told, written_told};
+
+use identifiers::{Identifier, IdentifierReadTold, IdentifierWrittenTold};
+
+#[unsafe(no_mangle)]
+pub extern "C" fn castanhiu_identifier_read(number: u32) -> IdentifierReadTold
+    ensures { result ≡ read_told (read_of number) }
+{
+    castanhiu::castanhiu_identifier_read(number)
+}
+
+#[unsafe(no_mangle)]
+pub extern "C" fn castanhiu_identifier_write(fields: Identifier) -> IdentifierWrittenTold
+    ensures { result ≡ written_told (written_as fields) }
+{
+    castanhiu::castanhiu_identifier_write(fields)
+}
