@@ -120,8 +120,8 @@ module _ {own : Position} {unit : ℕ} {p : Position} {f : Frame} where
       let j = s.long in (
         record {
           in_order = l.in_order ∙ ap (λ (i : ℕ). Consecutive p (suc i % 16)) s.count;
-          in_time = subst (λ (i : ℕ). gap_of f.stamp i ≤ 150) s.stamp l.in-time;
-          long_enough = subst (λ (i : ℕ). 2 + i ≤ length f.bytes) e l.long-enough;
+          in_time = subst (λ (i : ℕ). gap_of f.stamp i ≤ 150) s.stamp l.in_time;
+          long_enough = subst (λ (i : ℕ). 2 + i ≤ length f.bytes) e l.long_enough;
           bytes = l.bytes ∙ ap (λ (i : ℕ). take i (drop 2 f.bytes)) e;
         },
         omega arith,

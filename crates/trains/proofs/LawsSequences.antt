@@ -131,7 +131,7 @@ module _ {own : Position} {unit : ℕ} where
       let i = s.long in
       omega arith
 
-  pub once : {p : Position} {h g : Line} {f : Frame} {L k t : ℕ} {m b : List ℕ} → Complete own unit p h f m → (y : Underway own unit p g L k t b) → Within (h ▹ f) g → Within (h ▹ f) (origin y)
+  pub once : {p : Position} {h : Line} {f : Frame} {g : Line} {L k t : ℕ} {m b : List ℕ} → Complete own unit p h f m → (y : Underway own unit p g L k t b) → Within (h ▹ f) g → Within (h ▹ f) (origin y)
   once x y same = absurd (completed x _ _ _ _ y)
   once x (begins e u c) (later w) = w
   once x (passes y n) (later w) = once x y w
