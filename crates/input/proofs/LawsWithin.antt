@@ -15,7 +15,7 @@ use Rattle.text.specs.declared.reading.DigitsRead.{DigitsRead}
 use Rattle.text.specs.declared.reading.DigitsRead.TheVariants.{Number, NoNumber}
 use Rattle.text.proofs.LawsReading.{value-below}
 use Rattle.text.proofs.Texts.{read-exactly}
-use Rattle.input.specs.Within.{within, words_within, word_within, below, empty_written}
+use Rattle.input.specs.Within.{within, word_within, below, empty_written}
 use Rattle.input.specs.declared.arguments.WordRead.{WordRead}
 use Rattle.input.specs.declared.arguments.WordRead.TheVariants as word
 use Rattle.input.specs.declared.standard_input.Input.{Input}
@@ -46,22 +46,6 @@ pub chunk-length : (buffer : List ℕ) {n most : ℕ} {r : Input} → r ≡ inpu
 chunk-length buffer {n} e w l = let h = within-bytes _ n _ e w in omega (arith, length-take-le n buffer h, h, l)
 
 -- ---- words
-pub words-within : (n : ℕ) → n + 1 < 2 ^ 64 → words_within n ≡ true
-unfolding words_within
-words-within n h = lt-ltb _ _ h
-
-pub word-bytes-within : (room n : ℕ) → n ≤ room → word_within room (word.Bytes n) ≡ true
-unfolding word_within
-word-bytes-within room n h = le-leb _ _ h
-
-pub missing-within : (room : ℕ) → word_within room word.Missing ≡ true
-unfolding word_within
-missing-within room = refl
-
-pub too-long-within : (room : ℕ) → word_within room word.TooLong ≡ true
-unfolding word_within
-too-long-within room = refl
-
 pub within-word-bytes : (room n : ℕ) (r : WordRead) → r ≡ word.Bytes n → word_within room r ≡ true → n ≤ room
 unfolding word_within
 within-word-bytes room n r e h = leb-true _ _ (rw e at h)
@@ -84,9 +68,9 @@ digits-below base places text (Number n) e =
 digits-below base places text NoNumber e = refl
 
 -- ---- a text
-pub all-written : (count : ℕ) → empty_written count true ≡ true
+pub all_written : (count : ℕ) → empty_written count true ≡ true
 unfolding empty_written
-all-written count = sym (right-holds (ltb 0 count) refl)
+all_written count = sym (right-holds (ltb 0 count) refl)
 
 pub not_empty : (count : ℕ) (done : Bool) → (count ≡ 0 → ⊥) → empty_written count done ≡ true
 unfolding empty_written

@@ -2,6 +2,7 @@
 ghost use Rattle.std.specs.Prelude.{◌≡◌, true, ◌^◌, length};
 ghost use Rattle.input.specs.Within.{words_within, word_within, base_of, below};
 
+use std::env::{Env, FillError};
 use text::DigitsRead;
 
 // How many bytes a word has, or that there is no such word, or that the buffer does not take it.
@@ -12,11 +13,22 @@ pub enum WordRead {
     TooLong,
 }
 
-// How many there are.
-pub fn words() -> usize
+// How many arguments there are, the program's name among them.
+fn arguments(rt: HostRuntime) -> usize {
+    for i in 0..usize::MAX {
+        if matches!(rt.arg(i, &mut []), Err(FillError::NotPresent)) {
+            return i;
+        }
+    }
+    usize::MAX
+}
+
+// How many words there are.
+#[tactic(auto, unfolding(crate::specs::Within::words_within))]
+pub fn words(rt: HostRuntime) -> usize
     ensures { words_within result ≡ true }
 {
-    let count = os::arg_count();
+    let count = arguments(rt);
     if count == 0 {
         return 0;
     }
@@ -24,26 +36,23 @@ pub fn words() -> usize
 }
 
 // Puts a word, counted from 1, at the start of the buffer.
-pub fn word(number: usize, buffer: &mut [u8]) -> WordRead
+#[tactic(auto, unfolding(crate::specs::Within::word_within))]
+pub fn word(rt: HostRuntime, number: usize, buffer: &mut [u8]) -> WordRead
     ensures { word_within (length buffer.new) result ≡ true }
 {
-    let count = os::arg(number, buffer);
-    let error = os::errno();
-    if error == 0 {
-        return WordRead::Bytes(count);
+    match rt.arg(number, buffer) {
+        Ok(count) => WordRead::Bytes(count),
+        Err(FillError::NotPresent) => WordRead::Missing,
+        Err(FillError::TooLong) => WordRead::TooLong,
     }
-    if error == libc::EINVAL {
-        return WordRead::Missing;
-    }
-    WordRead::TooLong
 }
 
 // A word of exactly so many digits; a word that is missing or longer than 16 bytes is no number.
-fn digits_word(number: usize, places: usize, hexadecimal: bool) -> DigitsRead
+fn digits_word(rt: HostRuntime, number: usize, places: usize, hexadecimal: bool) -> DigitsRead
     ensures { below (base_of hexadecimal ^ places) result ≡ true }
 {
     let mut buffer = [0u8; 16];
-    let WordRead::Bytes(n) = word(number, &mut buffer) else {
+    let WordRead::Bytes(n) = word(rt, number, &mut buffer) else {
         return DigitsRead::NoNumber;
     };
     if hexadecimal {
@@ -52,14 +61,14 @@ fn digits_word(number: usize, places: usize, hexadecimal: bool) -> DigitsRead
     text::read_decimal(&buffer[..n], places)
 }
 
-pub fn hex_word(number: usize, places: usize) -> DigitsRead
+pub fn hex_word(rt: HostRuntime, number: usize, places: usize) -> DigitsRead
     ensures { below (16 ^ places) result ≡ true }
 {
-    digits_word(number, places, true)
+    digits_word(rt, number, places, true)
 }
 
-pub fn decimal_word(number: usize, places: usize) -> DigitsRead
+pub fn decimal_word(rt: HostRuntime, number: usize, places: usize) -> DigitsRead
     ensures { below (10 ^ places) result ≡ true }
 {
-    digits_word(number, places, false)
+    digits_word(rt, number, places, false)
 }

@@ -2,7 +2,7 @@
 ghost use Rattle.std.specs.Prelude.{◌≡◌, true, length};
 ghost use Rattle.input.specs.Within.{within};
 
-use libc::STDIN_FILENO;
+use std::io::Read;
 
 // How many bytes were read, or that a read failed.
 #[derive(Clone, Copy)]
@@ -15,23 +15,23 @@ pub enum Input {
 pub const MOST_CHUNKS: usize = 140737488355328;
 
 // One read: how many bytes it put at the start of the buffer, 0 at the end of the input.
-pub fn read_chunk(buffer: &mut [u8]) -> Input
+#[tactic(auto, unfolding(crate::specs::Within::within))]
+pub fn read_chunk(rt: HostRuntime, buffer: &mut [u8]) -> Input
     ensures { within (length buffer.new) result ≡ true }
 {
-    let got = libc::read(STDIN_FILENO, buffer);
-    if got < 0 {
-        return Input::Failed;
+    match rt.stdin().read(buffer) {
+        Ok(count) => Input::Bytes(count),
+        Err(_) => Input::Failed,
     }
-    Input::Bytes(io::count(got, buffer))
 }
 
 // Reads up to the end of the input or of the buffer.
-pub fn read_whole(buffer: &mut [u8]) -> Input
+pub fn read_whole(rt: HostRuntime, buffer: &mut [u8]) -> Input
     ensures { within (length buffer.new) result ≡ true }
 {
     let mut at = 0;
     while at < buffer.len() {
-        let Input::Bytes(more) = read_chunk(&mut buffer[at..]) else {
+        let Input::Bytes(more) = read_chunk(rt, &mut buffer[at..]) else {
             return Input::Failed;
         };
         if more == 0 {
