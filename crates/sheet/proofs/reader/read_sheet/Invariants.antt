@@ -1,0 +1,15 @@
+use mathlib.Core.Path.{◌≡◌, sym, ◌∙◌}
+use Prim.Native.Nat.{◌+◌, ◌-◌, ◌*◌, ◌/◌, ◌%◌, ◌≤◌}
+use native.Mathlib.Omega.{arith}
+use borrow.Author.Rules.{rules}
+use lib.ListN.{length}
+use Rattle.sheet.specs.Sheets.{field_at, fields_begun, first_refused}
+use Rattle.sheet.specs.declared.sheet_read.SheetRead.TheVariants.{Accepted}
+use Rattle.sheet.proofs.LawsSheets.{first-none, first-stays, first-reading, sheet-21, sheet-fields}
+use Rattle.sheet.proofs.reader.read_sheet.Given as goal
+
+abbrev pub invariant-loop-at : goal.invariant-loop-at
+invariant-loop-at l = (l.at ≤ length l.input + 16) × (l.at % 17 ≡ 0) × (first_refused (field_at l.input) (3 * (l.at / 17)) ≡ Accepted)
+
+abbrev pub decreases-loop-at : goal.decreases-loop-at
+decreases-loop-at l = length l.input + 17 - l.at
