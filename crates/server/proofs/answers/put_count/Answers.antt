@@ -2,7 +2,6 @@
 use mathlib.Core.Path.{◌∙◌}
 use mathlib.Core.Bool.{false}
 use native.Mathlib.Omega.{arith}
-use borrow.Author.Rules.{rules}
 use lib.ListN.{get_or, length-set}
 use Rattle.identifiers.proofs.LawsBytes.{puts-byte, keeps-length, ◌▸◌, puts-as}
 use Rattle.identifiers.proofs.LawsBelow.{count-le}

@@ -1,6 +1,5 @@
 -- `put_negative` meets its contract: three stores in a row.
 use native.Mathlib.Omega.{arith}
-use borrow.Author.Rules.{rules}
 use lib.ListN.{length-set}
 use Rattle.identifiers.proofs.LawsBytes.{puts-byte, ◌▸◌}
 use Rattle.server.specs.Server.{negative_bytes}

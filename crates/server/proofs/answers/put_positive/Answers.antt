@@ -1,7 +1,6 @@
 -- `put_positive` meets its contract: case by case.
 use mathlib.Core.Path.{◌∙◌}
 use native.Mathlib.Omega.{arith}
-use borrow.Author.Rules.{rules}
 use lib.ListN.{length-set}
 use Rattle.identifiers.proofs.LawsBytes.{puts_none, puts-byte, keeps-length, ◌▸◌}
 use Rattle.server.specs.Trailer.{lengths_within}

@@ -1,7 +1,6 @@
 -- `content_of_14` meets its contract: every group, or a code that is held.
 use mathlib.Core.Path.{refl, sym, ◌∙◌}
 use borrow.Author.Tests.{eq-eqb, ne_eqb}
-use borrow.Author.Rules.{rules}
 use Rattle.identifiers.proofs.LawsChoice.{taken, passed, left-holds, right-holds, right-decides}
 use Rattle.server.proofs.checks.content_of_14.Goals as goal
 

@@ -3,7 +3,6 @@ use mathlib.Core.Path.{refl}
 use Prim.Native.Nat.{◌+◌}
 use native.Mathlib.Omega.{arith}
 use borrow.Author.Tests.{eq-eqb, ne_eqb, lt-ltb, le-ltb}
-use borrow.Author.Rules.{rules}
 use Rattle.identifiers.proofs.LawsChoice.{taken, passed}
 use Rattle.server.specs.Server.{content_of_22}
 use Rattle.server.proofs.checks.content_of_22.Goals as goal

@@ -2,7 +2,6 @@
 use mathlib.Core.Path.{◌≡◌, sym}
 use mathlib.Core.Bool.{Bool}
 use Prim.Native.Nat.{ℕ, ◌+◌, ◌*◌}
-use borrow.Author.Rules.{rules}
 use lib.Dec.{ltb}
 use Rattle.identifiers.specs.Choice.{pick}
 use Rattle.server.specs.Faults.{count_listed, group_held}

@@ -1,8 +1,7 @@
 -- `answers_length` meets its contract: the total so far is the length of what is answered to those passed.
 use mathlib.Core.Path.{◌≡◌, sym, ap, ◌∙◌}
-use mathlib.Core.Logic.{⊎_elim}
 use mathlib.Core.List.{List}
-use Prim.Native.Nat.{ℕ, ◌+◌, ◌*◌, ◌-◌, ◌<◌, ◌≤◌}
+use Prim.Native.Nat.{ℕ, ◌+◌, ◌<◌, ◌≤◌}
 use native.Mathlib.Omega.{arith}
 use borrow.Author.Rules.{rules}
 use lib.ListN.{get_or, length}
@@ -40,8 +39,8 @@ pub loop-j-preserved : goal.loop-j-preserved
 loop-j-preserved c =
     let t : TrailerRecord = data_alone c.args.identifiers.now c.args.lengths.now c.args.bytes.now c.args.held in
     elim c.if-k-held.branch [
-      then-k-held w ↦ (search rules, (omega arith, omega (arith, hit t c.args.request.now c.loop-j.j _ _ c.place_among-k.ensures c.asked.ensures w.if-k-held.true)))
-    | else-k-held w ↦ (search rules, (omega arith, omega (arith, miss t c.args.request.now c.loop-j.j _ _ c.place_among-k.ensures c.asked.ensures w.if-k-held.false)))
+      | then-k-held w ↦ (search rules, (omega arith, omega (arith, hit t c.args.request.now c.loop-j.j _ _ c.place_among-k.ensures c.asked.ensures w.if-k-held.true)))
+      | else-k-held w ↦ (search rules, (omega arith, omega (arith, miss t c.args.request.now c.loop-j.j _ _ c.place_among-k.ensures c.asked.ensures w.if-k-held.false)))
     ]
 
 pub returns : goal.returns

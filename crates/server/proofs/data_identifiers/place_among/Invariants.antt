@@ -1,13 +1,9 @@
-use mathlib.Core.Path.{◌≡◌, sym}
+-- What the loop of `place_among` keeps true, and what falls at each turn.
+use mathlib.Core.Path.{◌≡◌}
 use Prim.Native.Nat.{ℕ, ◌-◌, ◌≤◌}
-use native.Mathlib.Omega.{arith}
-use borrow.Author.Tests.{eq-eqb, ne_eqb}
-use borrow.Author.Rules.{rules}
 use lib.Dec.{eqb}
 use lib.ListN.{get_or}
 use Rattle.identifiers.specs.Below.{first_below}
-use Rattle.identifiers.proofs.LawsBelow.{first-none, first-miss, first-hit}
-use Rattle.server.specs.Places.{place_among}
 use Rattle.server.proofs.data_identifiers.place_among.Given as goal
 
 abbrev pub invariant-loop-k : goal.invariant-loop-k

@@ -1,18 +1,16 @@
 -- `put_answers` meets its contract: what is put so far is what is answered to those passed; the inner loop changes nothing until it has found the identifier.
 use mathlib.Core.Path.{◌≡◌, refl, sym, ap, ◌∙◌}
 use mathlib.Core.List.{List}
-use Prim.Native.Nat.{ℕ, ◌-◌, ◌≤◌}
+use Prim.Native.Nat.{ℕ}
 use native.Mathlib.Omega.{arith}
 use borrow.Author.Tests.{ne_eqb}
 use borrow.Author.Rules.{rules}
-use lib.Dec.{eqb}
-use lib.ListN.{get_or}
-use Rattle.identifiers.specs.Below.{list_below, first_below}
+use Rattle.identifiers.specs.Below.{list_below}
 use Rattle.identifiers.specs.Bytes.{Puts}
 use Rattle.identifiers.proofs.LawsBelow.{list-none, first-none, first-miss}
 use Rattle.identifiers.proofs.LawsBytes.{puts_none, keeps-length, turn, turn-none}
 use Rattle.server.specs.Trailer.{data_alone}
-use Rattle.server.specs.DataIdentifiers.{asked_count, asked_at, data_of, identifier_and_data, answer_to, answers_of}
+use Rattle.server.specs.DataIdentifiers.{asked_count, asked_at, data_of, identifier_and_data, answers_of}
 use Rattle.server.specs.declared.trailer.TrailerRecord.{TrailerRecord}
 use Rattle.server.proofs.LawsTrailer.{length-within}
 use Rattle.server.proofs.LawsDataIdentifiers.{answer-fits, found, found_none}

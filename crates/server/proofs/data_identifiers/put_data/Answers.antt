@@ -1,12 +1,8 @@
 -- `put_data` meets its contract: what is put so far is the data passed.
 use mathlib.Core.Path.{◌≡◌, refl}
-use mathlib.Core.List.{[], ◌∷◌}
-use Prim.Native.Nat.{◌+◌, ◌*◌, ◌-◌, ◌≤◌}
 use native.Mathlib.Omega.{arith}
 use borrow.Author.Rules.{rules}
 use lib.ListN.{get_or}
-use Rattle.identifiers.specs.Below.{list_below}
-use Rattle.identifiers.specs.Bytes.{Puts}
 use Rattle.identifiers.proofs.LawsBelow.{list-none}
 use Rattle.identifiers.proofs.LawsBytes.{puts_none, puts-byte, keeps-length, turn}
 use Rattle.server.proofs.data_identifiers.put_data.Goals as goal

@@ -1,13 +1,10 @@
-use mathlib.Core.Path.{◌≡◌, refl}
+-- What the loop of `put_data` keeps true, and what falls at each turn.
+use mathlib.Core.Path.{◌≡◌}
 use mathlib.Core.List.{[], ◌∷◌}
 use Prim.Native.Nat.{◌+◌, ◌*◌, ◌-◌, ◌≤◌}
-use native.Mathlib.Omega.{arith}
-use borrow.Author.Rules.{rules}
 use lib.ListN.{get_or}
 use Rattle.identifiers.specs.Below.{list_below}
 use Rattle.identifiers.specs.Bytes.{Puts}
-use Rattle.identifiers.proofs.LawsBelow.{list-none}
-use Rattle.identifiers.proofs.LawsBytes.{puts_none, puts-byte, keeps-length, turn}
 use Rattle.server.proofs.data_identifiers.put_data.Given as goal
 
 abbrev pub invariant-loop-j : goal.invariant-loop-j

@@ -1,10 +1,8 @@
 -- `clear_first` meets its contract: the statuses passed are cleared.
 use mathlib.Core.Path.{◌≡◌, refl, sym}
-use mathlib.Core.Bool.{true}
-use Prim.Native.Nat.{ℕ, ◌-◌, ◌≤◌}
 use native.Mathlib.Omega.{arith}
 use borrow.Author.Rules.{rules}
-use Rattle.server.specs.Faults.{stored_below, cleared_at}
+use Rattle.server.specs.Faults.{cleared_at}
 use Rattle.server.proofs.LawsFaults.{stored-none, stored-hit}
 use Rattle.server.proofs.faults.clear_first.Goals as goal
 

@@ -1,10 +1,8 @@
-use mathlib.Core.Path.{◌≡◌, refl, sym}
+-- What the loop of `clear_first` keeps true, and what falls at each turn.
+use mathlib.Core.Path.{◌≡◌}
 use mathlib.Core.Bool.{true}
 use Prim.Native.Nat.{ℕ, ◌-◌, ◌≤◌}
-use native.Mathlib.Omega.{arith}
-use borrow.Author.Rules.{rules}
-use Rattle.server.specs.Faults.{stored_below, cleared_at}
-use Rattle.server.proofs.LawsFaults.{stored-none, stored-hit}
+use Rattle.server.specs.Faults.{stored_below}
 use Rattle.server.proofs.faults.clear_first.Given as goal
 
 abbrev pub invariant-loop-i : goal.invariant-loop-i

@@ -2,7 +2,6 @@
 use mathlib.Core.Path.{refl, ◌∙◌}
 use native.Mathlib.Omega.{arith}
 use borrow.Author.Tests.{lt-ltb, le-ltb}
-use borrow.Author.Rules.{rules}
 use Rattle.identifiers.specs.Choice.{either}
 use Rattle.server.specs.Places.{held_among}
 use Rattle.server.specs.Faults.{in_group, cleared_at, reach_of}

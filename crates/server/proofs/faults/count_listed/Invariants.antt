@@ -1,11 +1,8 @@
-use mathlib.Core.Path.{◌≡◌, sym, ap, ◌∙◌}
-use mathlib.Core.Logic.{⊎_elim}
-use Prim.Native.Nat.{ℕ, ◌+◌, ◌-◌, ◌≤◌}
-use native.Mathlib.Omega.{arith}
-use borrow.Author.Rules.{rules}
+-- What the loop of `count_listed` keeps true, and what falls at each turn.
+use mathlib.Core.Path.{◌≡◌}
+use Prim.Native.Nat.{ℕ, ◌-◌, ◌≤◌}
 use lib.ListN.{get_or}
 use Rattle.identifiers.specs.Below.{count_below}
-use Rattle.identifiers.proofs.LawsBelow.{count_none, count-hit, count-miss}
 use Rattle.server.specs.Faults.{listed}
 use Rattle.server.proofs.faults.count_listed.Given as goal
 

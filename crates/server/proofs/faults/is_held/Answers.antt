@@ -1,9 +1,7 @@
 -- `is_held` meets its contract: the answer so far is that of the codes passed.
 use mathlib.Core.Path.{◌≡◌, sym}
-use Prim.Native.Nat.{◌-◌, ◌≤◌}
 use native.Mathlib.Omega.{arith}
 use borrow.Author.Rules.{rules}
-use Rattle.server.specs.Places.{held_among}
 use Rattle.server.proofs.LawsPlaces.{held_none, held-turn}
 use Rattle.server.proofs.faults.is_held.Goals as goal
 

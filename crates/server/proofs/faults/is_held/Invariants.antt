@@ -1,9 +1,7 @@
-use mathlib.Core.Path.{◌≡◌, sym}
+-- What the loop of `is_held` keeps true, and what falls at each turn.
+use mathlib.Core.Path.{◌≡◌}
 use Prim.Native.Nat.{◌-◌, ◌≤◌}
-use native.Mathlib.Omega.{arith}
-use borrow.Author.Rules.{rules}
 use Rattle.server.specs.Places.{held_among}
-use Rattle.server.proofs.LawsPlaces.{held_none, held-turn}
 use Rattle.server.proofs.faults.is_held.Given as goal
 
 abbrev pub invariant-loop-i : goal.invariant-loop-i

@@ -1,12 +1,8 @@
 -- `place_among` meets its contract: the code stands at no place passed.
 use mathlib.Core.Path.{◌≡◌, sym}
-use Prim.Native.Nat.{ℕ, ◌-◌, ◌≤◌}
 use native.Mathlib.Omega.{arith}
 use borrow.Author.Tests.{eq-eqb, ne_eqb}
 use borrow.Author.Rules.{rules}
-use lib.Dec.{eqb}
-use lib.ListN.{get_or}
-use Rattle.identifiers.specs.Below.{first_below}
 use Rattle.identifiers.proofs.LawsBelow.{first-none, first-miss, first-hit}
 use Rattle.server.specs.Places.{place_among}
 use Rattle.server.proofs.faults.place_among.Goals as goal

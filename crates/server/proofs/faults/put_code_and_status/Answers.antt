@@ -1,6 +1,5 @@
 -- `put_code_and_status` meets its contract: four stores in a row.
 use native.Mathlib.Omega.{arith}
-use borrow.Author.Rules.{rules}
 use lib.ListN.{length-set}
 use Rattle.identifiers.proofs.LawsBytes.{puts-byte, ◌▸◌}
 use Rattle.server.specs.Faults.{code_and_status}

@@ -1,15 +1,9 @@
-use mathlib.Core.Path.{◌≡◌, sym, ◌∙◌}
-use mathlib.Core.Logic.{⊎_elim}
+-- What the loop of `put_report` keeps true, and what falls at each turn.
 use Prim.Native.Nat.{ℕ, ◌+◌, ◌*◌, ◌-◌, ◌≤◌}
-use native.Mathlib.Omega.{arith}
-use borrow.Author.Rules.{rules}
 use lib.ListN.{get_or}
 use Rattle.identifiers.specs.Below.{list_below}
 use Rattle.identifiers.specs.Bytes.{Puts}
-use Rattle.identifiers.proofs.LawsBelow.{list-none}
-use Rattle.identifiers.proofs.LawsBytes.{puts_none, keeps-length, turn, turn-none}
-use Rattle.server.specs.Faults.{code_and_status, reported}
-use Rattle.server.proofs.LawsFaults.{reported-hit, reported-miss}
+use Rattle.server.specs.Faults.{reported}
 use Rattle.server.proofs.faults.put_report.Given as goal
 
 abbrev pub invariant-loop-i : goal.invariant-loop-i

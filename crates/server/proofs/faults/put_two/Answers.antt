@@ -1,6 +1,5 @@
 -- `put_two` meets its contract: two stores in a row.
 use native.Mathlib.Omega.{arith}
-use borrow.Author.Rules.{rules}
 use lib.ListN.{length-set}
 use Rattle.identifiers.proofs.LawsBytes.{puts-byte, ◌▸◌}
 use Rattle.server.specs.Faults.{two_bytes}

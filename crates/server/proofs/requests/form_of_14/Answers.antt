@@ -1,7 +1,6 @@
 -- `form_of_14` meets its contract: the length decides.
 use mathlib.Core.Path.{refl, ap}
 use borrow.Author.Tests.{eq-eqb, ne_eqb}
-use borrow.Author.Rules.{rules}
 use Rattle.identifiers.proofs.LawsChoice.{taken, passed}
 use Rattle.server.specs.Requests.{sized, form_of_14}
 use Rattle.server.specs.declared.requests.Request.{Request}

@@ -1,12 +1,8 @@
 -- `form_of_19` meets its contract: each return stands at its rung.
-use mathlib.Core.Path.{◌≡◌, refl}
-use mathlib.Core.Bool.{false}
+use mathlib.Core.Path.{refl}
 use borrow.Author.Tests.{eq-eqb, ne_eqb, lt-ltb, le-ltb}
-use borrow.Author.Rules.{rules}
-use lib.Dec.{ltb}
-use lib.ListN.{length}
 use Rattle.identifiers.proofs.LawsChoice.{taken, passed}
-use Rattle.server.specs.Requests.{sub_function_of, silencing, sized, form_of_19}
+use Rattle.server.specs.Requests.{sub_function_of, silencing, form_of_19}
 use Rattle.server.proofs.requests.form_of_19.Goals as goal
 
 pub returns-then-n-lt2 : goal.returns-then-n-lt2

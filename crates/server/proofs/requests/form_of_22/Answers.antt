@@ -1,7 +1,6 @@
 -- `form_of_22` meets its contract: the length decides.
 use mathlib.Core.Path.{ap, ◌∙◌}
 use mathlib.Core.Bool.{Bool}
-use borrow.Author.Rules.{rules}
 use Rattle.identifiers.proofs.LawsChoice.{and_is}
 use Rattle.server.specs.Requests.{sized, form_of_22}
 use Rattle.server.specs.declared.requests.Request.{Request}

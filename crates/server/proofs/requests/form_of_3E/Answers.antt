@@ -1,7 +1,6 @@
 -- `form_of_3E` meets its contract: each return stands at its rung.
 use mathlib.Core.Path.{refl}
 use borrow.Author.Tests.{eq-eqb, ne_eqb, lt-ltb, le-ltb}
-use borrow.Author.Rules.{rules}
 use Rattle.identifiers.proofs.LawsChoice.{taken, passed}
 use Rattle.server.specs.Requests.{sub_function_of, silencing, form_of_3e}
 use Rattle.server.proofs.requests.form_of_3E.Goals as goal

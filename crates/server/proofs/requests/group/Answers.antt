@@ -1,6 +1,5 @@
 -- `group` meets its contract: three bytes, high first.
 use mathlib.Core.Path.{◌≡◌}
-use borrow.Author.Rules.{rules}
 use Rattle.server.specs.Requests.{group_of}
 use Rattle.server.proofs.requests.group.Goals as goal
 

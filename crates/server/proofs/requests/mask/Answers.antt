@@ -2,7 +2,6 @@
 use mathlib.Core.Path.{refl, sym}
 use Prim.Native.Nat.{◌≤◌}
 use native.Mathlib.Omega.{arith}
-use borrow.Author.Rules.{rules}
 use lib.ListN.{length, get_or-eq_default}
 use Rattle.server.specs.Requests.{mask_of}
 use Rattle.server.proofs.requests.mask.Goals as goal

@@ -1,6 +1,5 @@
 -- `read_request` meets its contract: the first byte decides whose form is read.
 use mathlib.Core.Path.{sym, ◌∙◌}
-use borrow.Author.Rules.{rules}
 use native.Mathlib.Omega.{arith}
 use Rattle.identifiers.specs.Choice.{pick}
 use Rattle.server.specs.Requests.{service_of, request_by}

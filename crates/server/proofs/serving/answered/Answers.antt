@@ -1,20 +1,18 @@
 -- `answered` meets its contract: each return stands at its rung, and what is written is what the rung says.
 use mathlib.Core.Path.{◌≡◌, refl, sym, ap, ◌∙◌}
-use mathlib.Core.Bool.{Bool, false}
+use mathlib.Core.Bool.{Bool}
 use mathlib.Core.List.{List}
-use Prim.Native.Nat.{ℕ, ◌≤◌}
+use Prim.Native.Nat.{ℕ}
 use native.Mathlib.Nat.{zero-add}
 use native.Mathlib.Omega.{arith}
-use lib.ListN.{length}
 use Rattle.identifiers.proofs.LawsBytes.{keeps-length}
 use Rattle.server.specs.Trailer.{record_of}
 use Rattle.server.specs.Requests.{service_of, request_of}
-use Rattle.server.specs.Silence.{silent_on}
-use Rattle.server.specs.Server.{negative_of, negative_bytes, Effect, answered}
+use Rattle.server.specs.Server.{negative_bytes, Effect, answered}
 use Rattle.server.specs.declared.trailer.TrailerRecord.{TrailerRecord}
 use Rattle.server.specs.declared.requests.Request.{Request}
 use Rattle.server.specs.declared.serving.Reply.TheVariants.{Sent}
-use Rattle.server.proofs.LawsTrailer.{Sound, sound-has}
+use Rattle.server.proofs.LawsTrailer.{sound-has}
 use Rattle.server.proofs.LawsCleared.{none-reach, none-cleared}
 use Rattle.server.proofs.LawsServer.{right-lengths, same_effect, answered-silent, answered-negative, answered-positive}
 use Rattle.server.proofs.serving.answered.Goals as goal

@@ -1,19 +1,11 @@
 -- `cleared_by` meets its contract: what the group clears where one is to be cleared, else nothing.
 use mathlib.Core.Path.{◌≡◌, refl}
-use mathlib.Core.Bool.{not}
-use mathlib.Core.List.{List, [], ◌∷◌}
 use Prim.Native.Nat.{ℕ}
-use lib.Dec.{T}
-use mir.Val.{has_key}
-use types.Run.{OneOf, miss}
-use denote.Enum.Declared.{tag_of}
-use borrow.Author.Rules.{rules}
 use Rattle.server.specs.Faults.{cleared_of}
 use Rattle.server.specs.Server.{changed_by}
 use Rattle.server.specs.declared.trailer.TrailerRecord.{TrailerRecord}
 use Rattle.server.specs.declared.requests.Request.{Request}
 use Rattle.server.proofs.LawsCleared.{none-reach, none-cleared}
-use Rattle.server.specs.contracts.requests.Request.{the_type}
 use Rattle.server.proofs.serving.cleared_by.Goals as goal
 
 -- a request that clears no group changes nothing

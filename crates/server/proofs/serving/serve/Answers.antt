@@ -3,7 +3,6 @@ use mathlib.Core.Path.{◌≡◌, sym, ap, ◌∙◌}
 use mathlib.Core.List.{List}
 use Prim.Native.Nat.{ℕ}
 use native.Mathlib.Omega.{arith}
-use borrow.Author.Rules.{rules}
 use lib.Bits.{bit_and}
 use Rattle.server.specs.Trailer.{with_statuses}
 use Rattle.server.specs.Faults.{cleared_at, reach_of}
@@ -28,7 +27,7 @@ returns c =
     let with : Cleared → List ℕ = λ cleared. cleared_at cleared (bit_and 0x50 t.availability) t.statuses in
     let done = c.serve_parts-settled.ensures.1 in
     let stored : c.match-cleared.record.statuses ≡ with c.serve_parts-settled.result.cleared = elim c.match-cleared.branch [
-      in-At w ↦ ap (λ (s : TrailerRecord). s.statuses) w.record-is ∙ ap with (sym w.in-At.is)
-    | in-First w ↦ ap (λ (s : TrailerRecord). s.statuses) w.record-is ∙ w.clear_first.ensures ∙ ap with (sym w.in-First.is)
+      | in-At w ↦ ap (λ (s : TrailerRecord). s.statuses) w.record-is ∙ ap with (sym w.in-At.is)
+      | in-First w ↦ ap (λ (s : TrailerRecord). s.statuses) w.record-is ∙ w.clear_first.ensures ∙ ap with (sym w.in-First.is)
     ] in
     (ap (with_statuses t) stored ∙ ap (λ (o : Effect). o.after) done, (ap (λ (o : Effect). o.reply) done, ap (λ (o : Effect). o.response) done))

@@ -1,13 +1,8 @@
 -- `serve_parts` meets its contract: the two refusals, and else what the request is answered.
-use mathlib.Core.Path.{◌≡◌, refl, sym, ap, ◌∙◌}
-use mathlib.Core.Bool.{true, false}
+use mathlib.Core.Path.{refl, sym, ap, ◌∙◌}
 use mathlib.Core.List.{List}
 use Prim.Native.Nat.{ℕ}
-use borrow.Author.Tests.{not-true, not-false}
-use borrow.Author.Rules.{rules}
-use lib.ListN.{length}
-use Rattle.server.specs.Trailer.{sound_record, record_of}
-use Rattle.server.specs.Server.{wrong_lengths}
+use Rattle.server.specs.Trailer.{record_of}
 use Rattle.server.specs.declared.trailer.TrailerRecord.{TrailerRecord}
 use Rattle.server.proofs.LawsCleared.{none-reach, none-cleared}
 use Rattle.server.proofs.LawsServer.{same_effect, served-1, served-17, served-read}

@@ -1,11 +1,8 @@
 -- `codes_ascend` meets its contract: the answer so far is that of the pairs passed.
 use mathlib.Core.Path.{◌≡◌, sym}
-use Prim.Native.Nat.{ℕ, ◌+◌, ◌-◌, ◌≤◌}
+use Prim.Native.Nat.{◌-◌}
 use native.Mathlib.Omega.{arith}
 use borrow.Author.Rules.{rules}
-use lib.Dec.{ltb}
-use lib.ListN.{get_or}
-use Rattle.identifiers.specs.Below.{all_below}
 use Rattle.identifiers.proofs.LawsBelow.{all_none, all-turn}
 use Rattle.server.specs.Trailer.{ascending}
 use Rattle.server.proofs.trailer.codes_ascend.Goals as goal

@@ -1,12 +1,9 @@
-use mathlib.Core.Path.{◌≡◌, sym}
+-- What the loop of `identifiers_ascend` keeps true, and what falls at each turn.
+use mathlib.Core.Path.{◌≡◌}
 use Prim.Native.Nat.{ℕ, ◌+◌, ◌-◌, ◌≤◌}
-use native.Mathlib.Omega.{arith}
-use borrow.Author.Rules.{rules}
 use lib.Dec.{ltb}
 use lib.ListN.{get_or}
 use Rattle.identifiers.specs.Below.{all_below}
-use Rattle.identifiers.proofs.LawsBelow.{all_none, all-turn}
-use Rattle.server.specs.Trailer.{ascending}
 use Rattle.server.proofs.trailer.identifiers_ascend.Given as goal
 
 abbrev pub invariant-loop-k : goal.invariant-loop-k

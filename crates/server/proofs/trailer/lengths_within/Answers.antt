@@ -1,12 +1,10 @@
 -- `lengths_within` meets its contract: the answer so far is that of the lengths passed.
 use mathlib.Core.Path.{◌≡◌, sym}
 use mathlib.Core.Bool.{◌&&◌}
-use Prim.Native.Nat.{ℕ, ◌-◌, ◌≤◌}
+use Prim.Native.Nat.{ℕ}
 use native.Mathlib.Omega.{arith}
 use borrow.Author.Rules.{rules}
 use lib.Dec.{leb}
-use lib.ListN.{get_or}
-use Rattle.identifiers.specs.Below.{all_below}
 use Rattle.identifiers.proofs.LawsChoice.{and_is}
 use Rattle.identifiers.proofs.LawsBelow.{all_none, all-turn}
 use Rattle.server.specs.Trailer.{length_within}

@@ -1,13 +1,8 @@
-use mathlib.Core.Path.{◌≡◌, sym}
-use mathlib.Core.Bool.{◌&&◌}
+-- What the loop of `lengths_within` keeps true, and what falls at each turn.
+use mathlib.Core.Path.{◌≡◌}
 use Prim.Native.Nat.{ℕ, ◌-◌, ◌≤◌}
-use native.Mathlib.Omega.{arith}
-use borrow.Author.Rules.{rules}
-use lib.Dec.{leb}
 use lib.ListN.{get_or}
 use Rattle.identifiers.specs.Below.{all_below}
-use Rattle.identifiers.proofs.LawsChoice.{and_is}
-use Rattle.identifiers.proofs.LawsBelow.{all_none, all-turn}
 use Rattle.server.specs.Trailer.{length_within}
 use Rattle.server.proofs.trailer.lengths_within.Given as goal
 

@@ -1,7 +1,6 @@
 -- `sound_codes` meets its contract: where the codes ascend, the last decides for all.
 use mathlib.Core.Path.{sym}
 use native.Mathlib.Omega.{arith}
-use borrow.Author.Rules.{rules}
 use Rattle.identifiers.proofs.LawsChoice.{so}
 use Rattle.identifiers.proofs.LawsBelow.{all_none}
 use Rattle.server.specs.Trailer.{ascending}

@@ -1,7 +1,6 @@
 -- `sound_record` meets its contract: two limits, then every rule.
 use mathlib.Core.Path.{sym}
 use borrow.Author.Tests.{le-leb, lt-leb}
-use borrow.Author.Rules.{rules}
 use Rattle.identifiers.proofs.LawsChoice.{stop, so}
 use Rattle.server.specs.Trailer.{codes_below, statuses_within, lengths_within, sound_record}
 use Rattle.server.proofs.LawsTrailer.{tests-in-a-row}

@@ -1,12 +1,8 @@
 -- `statuses_within` meets its contract: the bits so far are within where the statuses passed are.
 use mathlib.Core.Path.{◌≡◌, sym, ◌∙◌}
-use Prim.Native.Nat.{ℕ, ◌-◌, ◌≤◌}
 use native.Mathlib.Omega.{arith}
 use borrow.Author.Rules.{rules}
-use lib.ListN.{get_or}
-use Rattle.identifiers.specs.Below.{all_below}
 use Rattle.identifiers.proofs.LawsBelow.{all_none, all-turn}
-use Rattle.server.specs.Trailer.{status_within}
 use Rattle.server.proofs.LawsTrailer.{none_within, both-within}
 use Rattle.server.proofs.trailer.statuses_within.Goals as goal
 

@@ -1,6 +1,5 @@
 -- `Reply::told` meets its contract: the numbers of each case.
 use mathlib.Core.Path.{sym, ap}
-use borrow.Author.Rules.{rules}
 use Rattle.server.specs.Told.{reply_told}
 use Rattle.server.proofs.serving.Reply.told.Goals as goal
 
