@@ -14,7 +14,7 @@ pub enum WordRead {
 }
 
 // How many arguments there are, the program's name among them.
-fn arguments(rt: HostRuntime) -> usize {
+fn argument_count(rt: HostRuntime) -> usize {
     for i in 0..usize::MAX {
         if matches!(rt.arg(i, &mut []), Err(FillError::NotPresent)) {
             return i;
@@ -28,7 +28,7 @@ fn arguments(rt: HostRuntime) -> usize {
 pub fn words(rt: HostRuntime) -> usize
     ensures { words_within result ≡ true }
 {
-    let count = arguments(rt);
+    let count = argument_count(rt);
     if count == 0 {
         return 0;
     }

@@ -4,53 +4,53 @@
 ghost use Rattle.std.specs.Prelude.{◌≡◌, not, ◌%◌, eqb, get_or, take};
 ghost use Rattle.published_lines.specs.Tables.{reach_of, marks_of, part_of, number_or_zero, value_of};
 
-use libc::STDOUT_FILENO;
 use text::DigitsRead;
 
-pub fn say(text: &[u8]) {
-    io::write_all(STDOUT_FILENO, text);
+// That the line does not arrive is said nowhere.
+pub fn say(rt: HostRuntime, text: &[u8]) {
+    let _ = rt.write_all(text);
 }
 
 // Words, and a number behind them.
-pub fn say_number(words: &[u8], number: usize) {
-    say(words);
-    io::print_decimal(STDOUT_FILENO, number as u64);
+pub fn say_number(rt: HostRuntime, words: &[u8], number: usize) {
+    say(rt, words);
+    let _ = rt.print(number);
 }
 
 // Words, and a byte behind them in two digits.
-pub fn say_byte(words: &[u8], byte: u8) {
+pub fn say_byte(rt: HostRuntime, words: &[u8], byte: u8) {
     let mut digits = [0u8; 2];
     text::put_hex(&mut digits, 0, byte);
-    say(words);
-    say(&digits);
+    say(rt, words);
+    say(rt, &digits);
 }
 
 // A number of 32 bits in eight digits.
-pub fn say_long(number: u32) {
-    say_byte(b"", (number / 16777216) as u8);
-    say_byte(b"", (number / 65536 % 256) as u8);
-    say_byte(b"", (number / 256 % 256) as u8);
-    say_byte(b"", (number % 256) as u8);
+pub fn say_long(rt: HostRuntime, number: u32) {
+    say_byte(rt, b"", (number / 16777216) as u8);
+    say_byte(rt, b"", (number / 65536 % 256) as u8);
+    say_byte(rt, b"", (number / 256 % 256) as u8);
+    say_byte(rt, b"", (number % 256) as u8);
 }
 
 // A space and two digits for each byte.
-pub fn say_bytes(text: &[u8]) {
+pub fn say_bytes(rt: HostRuntime, text: &[u8]) {
     let mut i = 0;
     while i < text.len() {
-        say_byte(b" ", text[i]);
+        say_byte(rt, b" ", text[i]);
         i += 1;
     }
 }
 
 // Ends a line with a refusal, and says whether there is one: number 0 is none.
-pub fn refused(number: u8) -> bool
+pub fn refused(rt: HostRuntime, number: u8) -> bool
     ensures { result ≡ not (eqb number 0) }
 {
     if number == 0 {
         return false;
     }
-    say_number(b"refused ", number as usize);
-    say(b"\n");
+    say_number(rt, b"refused ", number as usize);
+    say(rt, b"\n");
     true
 }
 
@@ -118,19 +118,19 @@ pub fn part<'a>(text: &'a [u8], mark: u8, k: usize) -> &'a [u8]
 }
 
 // The words of a line, with a word of the case at each mark #, and the next word in bytes at a mark $ behind them.
-pub fn say_case(line: &[u8], case: &[u8]) {
+pub fn say_case(rt: HostRuntime, line: &[u8], case: &[u8]) {
     let count = marks(line, b'#');
     let mut k = 0;
     while k < count {
-        say(part(line, b'#', k));
-        say(part(case, b';', k));
+        say(rt, part(line, b'#', k));
+        say(rt, part(case, b';', k));
         k += 1;
     }
     let end = part(line, b'#', k);
-    say(part(end, b'$', 0));
+    say(rt, part(end, b'$', 0));
     if marks(end, b'$') != 0 {
-        say_bytes(part(case, b';', k));
-        say(part(end, b'$', 1));
+        say_bytes(rt, part(case, b';', k));
+        say(rt, part(end, b'$', 1));
     }
 }
 
