@@ -5,4 +5,4 @@ use Rattle.server.proofs.mask.sound_mask.Goals as goal
 
 pub returns : goal.returns
 unfolding sound_mask
-returns c = rw (and_is, and_is, or_is)
+returns c = simp (and_is, or_is)
