@@ -11,6 +11,9 @@ pub enum Input {
     Failed,
 }
 
+// How many bytes a buffer for chunks has.
+pub const CHUNK: usize = 65536;
+
 // A loop over chunks of at most 65,536 bytes that counts its turns down from 2^47 ends, and has read no more than 2^63 bytes.
 pub const MOST_CHUNKS: usize = 140737488355328;
 

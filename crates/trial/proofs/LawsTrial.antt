@@ -17,13 +17,13 @@ use Rattle.trial.specs.declared.Counted.{Counted}
 use Rattle.trial.specs.declared.Counting.TheVariants.{Done, Failed}
 
 -- ---- the words
-pub other-asked : own_is_trailer Other ≡ true
+pub other_asked : own_is_trailer Other ≡ true
 unfolding own_is_trailer
-other-asked = refl
+other_asked = refl
 
-pub words-asked : (mask own : ℕ) → 1 ≤ own → own ≤ 5 → own_is_trailer (Words mask own) ≡ true
+pub words_asked : (mask own : ℕ) → 1 ≤ own → own ≤ 5 → own_is_trailer (Words mask own) ≡ true
 unfolding own_is_trailer both
-words-asked mask own l h = rw (le-leb _ _ l, le-leb _ _ h)
+words_asked mask own l h = rw (le-leb _ _ l, le-leb _ _ h)
 
 pub asked-words : {mask own : ℕ} (r : Asked) → r ≡ Words mask own → own_is_trailer r ≡ true → (1 ≤ own) × (own ≤ 5)
 unfolding own_is_trailer

@@ -28,16 +28,17 @@ enum Counting {
     Failed,
 }
 
-fn read_words() -> Asked
+#[tactic(auto, using(crate::proofs::LawsTrial::other_asked, crate::proofs::LawsTrial::words_asked))]
+fn read_words(rt: HostRuntime) -> Asked
     ensures { own_is_trailer result ≡ true }
 {
-    if input::words() != 2 {
+    if input::words(rt) != 2 {
         return Asked::Other;
     }
-    let DigitsRead::Number(mask) = input::hex_word(1, 2) else {
+    let DigitsRead::Number(mask) = input::hex_word(rt, 1, 2) else {
         return Asked::Other;
     };
-    let DigitsRead::Number(own) = input::decimal_word(2, 1) else {
+    let DigitsRead::Number(own) = input::decimal_word(rt, 2, 1) else {
         return Asked::Other;
     };
     if own < 1 {
@@ -79,14 +80,14 @@ fn count_chunk(counted: Counted, chunk: &[u8]) -> Counted
 }
 
 // Standard input to its end. More turns than can be counted are told as a read that failed.
-fn count_input() -> Counting
+fn count_input(rt: HostRuntime) -> Counting
     ensures { lines_within result ≡ true }
 {
-    let mut buffer = io::large_buffer();
+    let mut buffer = [0u8; input::CHUNK];
     let mut counted = Counted { bytes: 0, lines: 0 };
     let mut turns = input::MOST_CHUNKS;
     while 0 < turns {
-        let Input::Bytes(n) = input::read_chunk(&mut buffer) else {
+        let Input::Bytes(n) = input::read_chunk(rt, &mut buffer) else {
             return Counting::Failed;
         };
         if n == 0 {
@@ -120,30 +121,30 @@ fn compose(page: &mut [u8], mask: u8, own: usize, bytes: usize, lines: usize) ->
 
 // The only place that writes to standard output. Who calls it has shown that OWN is 1 to 5, and that the text is that of the
 // numbers.
-fn send(mask: u8, own: usize, bytes: usize, lines: usize, text: &[u8])
+fn send(rt: HostRuntime, mask: u8, own: usize, bytes: usize, lines: usize, text: &[u8])
     requires { ((1 ≤ own) × (own ≤ 5)) × (text.now ≡ trial_text mask own bytes lines) }
 {
-    input::write(b"trial", text);
+    input::write(rt, b"trial", text);
 }
 
-fn answer(mask: u8, own: usize)
+fn answer(rt: HostRuntime, mask: u8, own: usize)
     requires { (1 ≤ own) × (own ≤ 5) }
 {
-    let Counting::Done(counted) = count_input() else {
-        input::unread(b"trial");
+    let Counting::Done(counted) = count_input(rt) else {
+        input::unread(rt, b"trial");
         return;
     };
     let bytes = counted.bytes;
     let lines = counted.lines;
     let mut page = [0u8; 80];
     let end = compose(&mut page, mask, own, bytes, lines);
-    send(mask, own, bytes, lines, &page[..end]);
+    send(rt, mask, own, bytes, lines, &page[..end]);
 }
 
-fn main() {
-    let Asked::Words { mask, own } = read_words() else {
-        input::usage(b"trial MASK OWN < FILE");
+fn main(rt: HostRuntime) {
+    let Asked::Words { mask, own } = read_words(rt) else {
+        input::usage(rt, b"trial MASK OWN < FILE");
         return;
     };
-    answer(mask, own);
+    answer(rt, mask, own);
 }
