@@ -22,9 +22,9 @@ use Rattle.mending.proofs.LawsListed.{lines_fit}
 use Rattle.mending.proofs.LawsLeft.{left-room, left-put, left-none}
 use Rattle.mending.proofs.LawsGoing.{ahead, Going, kept_next, lines_next, kept-last, list-last}
 
-pub too_long : (s : List ℕ) → 65535 < length s → too_long s ≡ true
+pub too-long : (s : List ℕ) → 65535 < length s → too_long s ≡ true
 unfolding too_long
-too_long s l = lt-ltb _ _ l
+too-long s l = lt-ltb _ _ l
 
 pub not-too-long : (s : List ℕ) → length s ≤ 65535 → too_long s ≡ false
 unfolding too_long
@@ -41,7 +41,7 @@ mended-length s = omega (arith, kept-length (pieces s), ap length (pieces-joined
 -- ---- refused: nothing is written
 pub mends-not : (s kept page : List ℕ) → 65535 < length s → (Refused (refusal 21) ≡ mended_as s) × Mends s kept page kept page
 unfolding mended_as
-mends-not s kept page l = let e = too_long s l in (taken _ e refl, record { keeps = taken _ e refl; lists = taken _ e refl })
+mends-not s kept page l = let e = too-long s l in (taken _ e refl, record { keeps = taken _ e refl; lists = taken _ e refl })
 
 -- ---- room
 module _ {s kept₀ page₀ kept page : List ℕ} {at start end listed : ℕ} (g : Going s kept₀ page₀ kept page at start end listed) (l : length s ≤ 65535) where

@@ -16,7 +16,7 @@ use Rattle.sheet.proofs.LawsPrinted.{printed-refused}
 use Rattle.mending.specs.Mended.{too_long, mended_as, Mends, sheet_text, list_text}
 use Rattle.mending.specs.declared.mended.Mended.TheVariants.{Written}
 use Rattle.mending.proofs.LawsListed.{lines_fit}
-use Rattle.mending.proofs.LawsMended.{too_long, not-too-long, mended-length, answered-written}
+use Rattle.mending.proofs.LawsMended.{too-long, not-too-long, mended-length, answered-written}
 
 -- an array up to an end that lies in it is a text
 pub record Stands (text array : List ℕ) (end : ℕ) : Type 0 where
@@ -43,5 +43,5 @@ pub refused-text : (s : List ℕ) → 65535 < length s → (printed s ≡ sheet_
 unfolding sheet_text list_text
 refused-text s l =
     let line = printed-refused s (refusal 21) 0 (sheet-21 s l) in
-    let long = too_long s l in
+    let long = too-long s l in
     (taken _ long line, taken _ long line)

@@ -28,7 +28,7 @@ use Rattle.mending.proofs.LawsPieces.{silent, Stand, stand-mending, mending-stan
 use Rattle.mending.proofs.LawsWalked.{joined-append, walked, stand-walk}
 use Rattle.mending.proofs.LawsKept.{kept-none, kept-first, kept-accepted}
 use Rattle.mending.proofs.LawsListed.{no-stretch, lines-last, lines-kept, lines-append, newlines-lines, few-stretches, lines_fit}
-use Rattle.mending.proofs.LawsMended.{too_long, mended-length, mends-not, answered-written, answered-refused}
+use Rattle.mending.proofs.LawsMended.{too-long, mended-length, mends-not, answered-written, answered-refused}
 
 -- ---- the walk's pieces are as `Mending` says, and no others are
 stand : (s : List ℕ) → Stand (pieces s)
@@ -145,4 +145,4 @@ arrays-hold {s} end listed k l e m =
     }
 
 pub arrays-stay : {s kept₀ page₀ kept page : List ℕ} → 65535 < length s → Mends s kept₀ page₀ kept page → (kept ≡ kept₀) × (page ≡ page₀)
-arrays-stay {s} l m = (m.keeps ∙ pick_true _ _ (too_long s l), m.lists ∙ pick_true _ _ (too_long s l))
+arrays-stay {s} l m = (m.keeps ∙ pick_true _ _ (too-long s l), m.lists ∙ pick_true _ _ (too-long s l))

@@ -1,5 +1,4 @@
 -- `cut_short` meets its contract: the head first, then the length that it names.
-use borrow.Author.Rules.{rules}
 use Rattle.sheet.proofs.LawsFields.{cut-head, cut-content}
 use Rattle.sheet.proofs.fields.cut_short.Goals as goal
 

@@ -1,8 +1,6 @@
 -- `field_read` meets its contract: each return stands at its rung of `field_read`.
-use mathlib.Core.Path.{◌≡◌, sym, ◌∙◌}
-use mathlib.Core.Bool.{false}
+use mathlib.Core.Path.{sym, ◌∙◌}
 use native.Mathlib.Omega.{arith}
-use Rattle.sheet.specs.Fields.{cut_short, wrong_form}
 use Rattle.sheet.proofs.LawsFields.{uncut-head, content-stands, field-22, field-23, field-24, field-accepted}
 use Rattle.sheet.proofs.fields.field_read.Goals as goal
 

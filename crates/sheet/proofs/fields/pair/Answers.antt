@@ -1,6 +1,5 @@
 -- `pair` meets its contract: two bytes, high first, are below 65,536.
 use native.Mathlib.Omega.{arith}
-use borrow.Author.Rules.{rules}
 use Rattle.sheet.proofs.fields.pair.Goals as goal
 
 pub returns : goal.returns

@@ -1,5 +1,4 @@
 -- `sound_response` meets its contract: each return stands at the first test that fails.
-use borrow.Author.Rules.{rules}
 use borrow.Author.Tests.{eq-eqb, ne_eqb}
 use Rattle.identifiers.proofs.LawsChoice.{stop, so}
 use Rattle.sheet.specs.Fields.{sound_response}

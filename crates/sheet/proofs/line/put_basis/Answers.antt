@@ -1,6 +1,5 @@
 -- `put_basis` meets its contract: the word of each case.
 use native.Mathlib.Omega.{arith}
-use borrow.Author.Rules.{rules}
 use Rattle.text.proofs.LawsPutting.{put-fits}
 use Rattle.sheet.specs.Text.{word_of}
 use Rattle.sheet.proofs.line.put_basis.Goals as goal

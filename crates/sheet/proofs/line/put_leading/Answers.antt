@@ -1,5 +1,4 @@
 -- `put_leading` meets its contract: by the one test.
-use borrow.Author.Rules.{rules}
 use Rattle.identifiers.proofs.LawsBytes.{puts_none, puts-byte}
 use Rattle.sheet.proofs.LawsLeading.{no-leading, some-leading}
 use Rattle.sheet.proofs.line.put_leading.Goals as goal

@@ -1,7 +1,6 @@
 -- `put_line` meets its contract: the numbers, the word and the newline in a row.
 use native.Mathlib.Nat.{le_of_eq}
 use native.Mathlib.Omega.{arith}
-use borrow.Author.Rules.{rules}
 use Rattle.identifiers.proofs.LawsBytes.{◌▸◌}
 use Rattle.text.proofs.LawsPutting.{room-behind, put-fits}
 use Rattle.sheet.specs.Text.{line_of}

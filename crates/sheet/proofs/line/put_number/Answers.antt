@@ -1,9 +1,8 @@
 -- `put_number` meets its contract: its digits in a row, each where there is room for it and for those behind it, and a blank.
 use mathlib.Core.Path.{sym}
 use native.Mathlib.Omega.{arith}
-use borrow.Author.Rules.{rules}
 use lib.ListN.{length-set}
-use Rattle.identifiers.proofs.LawsBytes.{puts-as, puts-byte, keeps-length, ◌▸◌}
+use Rattle.identifiers.proofs.LawsBytes.{puts-as, puts-byte, ◌▸◌}
 use Rattle.text.proofs.LawsPutting.{put-fits}
 use Rattle.sheet.proofs.LawsLeading.{room-leading, five-digits}
 use Rattle.sheet.proofs.line.put_number.Goals as goal

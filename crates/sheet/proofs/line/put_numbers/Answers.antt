@@ -1,6 +1,5 @@
 -- `put_numbers` meets its contract: its columns, put in a row, each where there is room for it and for those behind it.
 use native.Mathlib.Omega.{arith}
-use borrow.Author.Rules.{rules}
 use Rattle.identifiers.proofs.LawsBytes.{keeps-length, ◌▸◌}
 use Rattle.text.proofs.LawsPutting.{put-given, room-behind}
 use Rattle.sheet.specs.Text.{numbers_of}

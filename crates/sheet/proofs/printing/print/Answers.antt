@@ -1,7 +1,6 @@
 -- `print` meets its contract: the header and the lines of an accepted input, or the line of its refusal.
 use mathlib.Core.Path.{sym, ◌∙◌}
 use native.Mathlib.Omega.{arith}
-use borrow.Author.Rules.{rules}
 use Rattle.identifiers.proofs.LawsBytes.{keeps-length, ◌▸◌}
 use Rattle.sheet.specs.Readings.{readings_in}
 use Rattle.sheet.proofs.LawsSheets.{accepted-short}

@@ -1,7 +1,5 @@
 -- `put_header` meets its contract: there is room for its 36 bytes.
-use mathlib.Core.Path.{refl}
 use native.Mathlib.Omega.{arith}
-use Rattle.identifiers.proofs.LawsBytes.{keeps-length}
 use Rattle.text.proofs.LawsPutting.{put-fits}
 use Rattle.sheet.proofs.printing.put_header.Goals as goal
 

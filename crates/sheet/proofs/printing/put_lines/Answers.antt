@@ -1,13 +1,10 @@
 -- `put_lines` meets its contract: after n turns the lines of the first n readings stand in the page.
 use mathlib.Core.Path.{◌≡◌, ap}
-use Prim.Native.Nat.{◌-◌, ◌≤◌}
 use native.Mathlib.Omega.{arith}
 use borrow.Author.Rules.{rules}
-use Rattle.identifiers.specs.Bytes.{Puts}
 use Rattle.identifiers.proofs.LawsBelow.{list-none}
 use Rattle.identifiers.proofs.LawsBytes.{puts_none, keeps-length, turn}
 use Rattle.sheet.specs.Text.{line_of}
-use Rattle.sheet.specs.Printed.{lines_of}
 use Rattle.sheet.proofs.LawsPrinted.{length-lines}
 use Rattle.sheet.proofs.printing.put_lines.Goals as goal
 

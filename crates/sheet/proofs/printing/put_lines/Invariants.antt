@@ -1,13 +1,6 @@
-use mathlib.Core.Path.{◌≡◌, ap}
 use Prim.Native.Nat.{◌-◌, ◌≤◌}
-use native.Mathlib.Omega.{arith}
-use borrow.Author.Rules.{rules}
 use Rattle.identifiers.specs.Bytes.{Puts}
-use Rattle.identifiers.proofs.LawsBelow.{list-none}
-use Rattle.identifiers.proofs.LawsBytes.{puts_none, keeps-length, turn}
-use Rattle.sheet.specs.Text.{line_of}
 use Rattle.sheet.specs.Printed.{lines_of}
-use Rattle.sheet.proofs.LawsPrinted.{length-lines}
 use Rattle.sheet.proofs.printing.put_lines.Given as goal
 
 abbrev pub invariant-loop-number : goal.invariant-loop-number

@@ -1,7 +1,7 @@
 -- `put_refusal` meets its contract: its parts, put in a row, each where there is room for it and for those behind it.
-use mathlib.Core.Path.{refl, sym}
+use mathlib.Core.Path.{sym}
 use native.Mathlib.Omega.{arith}
-use Rattle.identifiers.proofs.LawsBytes.{puts-as, keeps-length, ◌▸◌}
+use Rattle.identifiers.proofs.LawsBytes.{puts-as, ◌▸◌}
 use Rattle.text.proofs.LawsDigits.{decimal-in, length-decimal}
 use Rattle.text.proofs.LawsPutting.{put-fits, put_on}
 use Rattle.sheet.specs.Text.{refusal_line}

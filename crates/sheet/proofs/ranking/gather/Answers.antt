@@ -1,12 +1,10 @@
 -- `gather` meets its contract: after n turns the places of the mask's readings among the first n are there, and where each of them stands.
 use mathlib.Core.Path.{◌≡◌, ap, ◌∙◌}
-use Prim.Native.Nat.{◌-◌, ◌≤◌}
 use native.Mathlib.Omega.{arith}
-use lib.ListN.{length}
 use borrow.Author.Rules.{rules}
 use Rattle.sheet.specs.Readings.{readings_in}
 use Rattle.sheet.specs.Standing.{standing_of}
-use Rattle.sheet.proofs.LawsGathered.{asked, not-asked, Gathered, gathered_none, gathered-hit, gathered-miss}
+use Rattle.sheet.proofs.LawsGathered.{asked, not-asked, gathered_none, gathered-hit, gathered-miss}
 use Rattle.sheet.proofs.ranking.gather.Goals as goal
 
 pub loop-number-init : goal.loop-number-init

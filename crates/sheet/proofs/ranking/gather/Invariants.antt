@@ -1,11 +1,7 @@
-use mathlib.Core.Path.{◌≡◌, ap, ◌∙◌}
+use mathlib.Core.Path.{◌≡◌}
 use Prim.Native.Nat.{◌-◌, ◌≤◌}
-use native.Mathlib.Omega.{arith}
 use lib.ListN.{length}
-use borrow.Author.Rules.{rules}
-use Rattle.sheet.specs.Readings.{readings_in}
-use Rattle.sheet.specs.Standing.{standing_of}
-use Rattle.sheet.proofs.LawsGathered.{asked, not-asked, Gathered, gathered_none, gathered-hit, gathered-miss}
+use Rattle.sheet.proofs.LawsGathered.{Gathered}
 use Rattle.sheet.proofs.ranking.gather.Given as goal
 
 abbrev pub invariant-loop-number : goal.invariant-loop-number

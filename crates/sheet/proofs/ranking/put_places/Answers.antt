@@ -1,12 +1,11 @@
 -- `put_places` meets its contract: after i turns the lines of the first i places stand in the page.
 use mathlib.Core.Path.{sym, ap}
 use mathlib.Core.List.{List, map}
-use Prim.Native.Nat.{ℕ, ◌<◌, ◌+◌, ◌*◌, ◌-◌, ◌≤◌}
+use Prim.Native.Nat.{ℕ, ◌<◌, ◌+◌, ◌*◌, ◌≤◌}
 use native.Mathlib.Omega.{arith}
 use lib.ListN.{length, length-map, get_or, take}
 use lib.Seq.{length-take-le, take_all}
 use borrow.Author.Rules.{rules}
-use Rattle.identifiers.specs.Bytes.{Puts}
 use Rattle.identifiers.proofs.LawsBytes.{puts_none, puts-as, keeps-length, ◌▸◌}
 use Rattle.sheet.specs.Readings.{readings_in, reading_of}
 use Rattle.sheet.specs.Ranked.{lines_at}

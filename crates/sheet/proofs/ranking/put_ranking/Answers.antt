@@ -1,10 +1,9 @@
 -- `put_ranking` meets its contract: behind the header, the places found, put in order, are the ranked ones and then the excluded ones.
-use mathlib.Core.Path.{◌≡◌, sym, ap, ◌∙◌}
+use mathlib.Core.Path.{sym, ap, ◌∙◌}
 use native.Mathlib.Omega.{arith}
 use Prim.Native.Nat.{◌≤◌}
 use lib.ListN.{length, length-append, drop}
 use lib.Seq.{length-take-le, take_at}
-use borrow.Author.Rules.{rules}
 use Rattle.identifiers.proofs.LawsBytes.{puts-as, keeps-length, ◌▸◌}
 use Rattle.order.proofs.LawsEach.{each-get}
 use Rattle.sheet.specs.Ranked.{lines_at}

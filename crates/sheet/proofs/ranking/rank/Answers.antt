@@ -1,7 +1,6 @@
 -- `rank` meets its contract: the page of an accepted input, or the line of its refusal.
 use mathlib.Core.Path.{sym, ◌∙◌}
 use native.Mathlib.Omega.{arith}
-use borrow.Author.Rules.{rules}
 use Rattle.sheet.specs.Readings.{readings_in}
 use Rattle.sheet.proofs.LawsSheets.{accepted-short}
 use Rattle.sheet.proofs.LawsEarliest.{refused-small}

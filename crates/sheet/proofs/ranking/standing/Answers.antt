@@ -1,6 +1,5 @@
 -- `standing` meets its contract: of the three words of the basis only full gives the count.
 use mathlib.Core.Path.{sym, ap, ◌∙◌}
-use borrow.Author.Rules.{rules}
 use Rattle.sheet.specs.Ranked.{is_full}
 use Rattle.sheet.proofs.LawsStanding.{full-stands, other-stands}
 use Rattle.sheet.proofs.ranking.standing.Goals as goal

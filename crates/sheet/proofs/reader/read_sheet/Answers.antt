@@ -1,11 +1,8 @@
 -- `read_sheet` meets its contract: the readings passed are accepted, and the first that is not stops the loop.
 use mathlib.Core.Path.{◌≡◌, sym, ◌∙◌}
-use Prim.Native.Nat.{◌+◌, ◌-◌, ◌*◌, ◌/◌, ◌%◌, ◌≤◌}
+use Prim.Native.Nat.{◌*◌, ◌/◌}
 use native.Mathlib.Omega.{arith}
-use borrow.Author.Rules.{rules}
-use lib.ListN.{length}
-use Rattle.sheet.specs.Sheets.{field_at, fields_begun, first_refused}
-use Rattle.sheet.specs.declared.sheet_read.SheetRead.TheVariants.{Accepted}
+use Rattle.sheet.specs.Sheets.{fields_begun}
 use Rattle.sheet.proofs.LawsSheets.{first-none, first-stays, first-reading, sheet-21, sheet-fields}
 use Rattle.sheet.proofs.reader.read_sheet.Goals as goal
 

@@ -1,11 +1,8 @@
-use mathlib.Core.Path.{◌≡◌, sym, ◌∙◌}
+use mathlib.Core.Path.{◌≡◌}
 use Prim.Native.Nat.{◌+◌, ◌-◌, ◌*◌, ◌/◌, ◌%◌, ◌≤◌}
-use native.Mathlib.Omega.{arith}
-use borrow.Author.Rules.{rules}
 use lib.ListN.{length}
-use Rattle.sheet.specs.Sheets.{field_at, fields_begun, first_refused}
+use Rattle.sheet.specs.Sheets.{field_at, first_refused}
 use Rattle.sheet.specs.declared.sheet_read.SheetRead.TheVariants.{Accepted}
-use Rattle.sheet.proofs.LawsSheets.{first-none, first-stays, first-reading, sheet-21, sheet-fields}
 use Rattle.sheet.proofs.reader.read_sheet.Given as goal
 
 abbrev pub invariant-loop-at : goal.invariant-loop-at

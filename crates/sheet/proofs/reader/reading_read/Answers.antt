@@ -1,5 +1,4 @@
 -- `reading_read` meets its contract: the first of the three that is refused, in their order.
-use borrow.Author.Rules.{rules}
 use Rattle.sheet.specs.Sheets.{or_next, reading_read}
 use Rattle.sheet.proofs.reader.reading_read.Goals as goal
 

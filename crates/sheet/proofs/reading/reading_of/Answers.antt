@@ -1,5 +1,4 @@
 -- `reading_of` meets its contract: the bytes at the places that `reading_of` names, and a count of two bytes.
-use borrow.Author.Rules.{rules}
 use Rattle.sheet.specs.Readings.{reading_of}
 use Rattle.sheet.proofs.reading.reading_of.Goals as goal
 

@@ -1,7 +1,6 @@
 -- `SheetRead::told` meets its contract: the numbers of each case.
 use mathlib.Core.Path.{sym, ap}
 use Rattle.sheet.specs.Sheets.{sheet_read_told}
-use borrow.Author.Rules.{rules}
 use Rattle.sheet.proofs.sheet_read.SheetRead.told.Goals as goal
 
 pub returns-in-Accepted : goal.returns-in-Accepted
