@@ -4,7 +4,7 @@ use mathlib.Core.Bool.{Bool, true, false, ◌&&◌}
 use mathlib.Core.List.{List, []}
 use Prim.Native.Nat.{ℕ, ◌^◌, ◌≤◌, ◌<◌}
 use native.Mathlib.Omega.{arith}
-use borrow.Author.Tests.{eq-eqb, ne_eqb, le-leb, lt-leb, leb-true, eqb-true}
+use borrow.Author.Tests.{eq-eqb, ne_eqb, le-leb, lt-leb, eqb-true}
 use lib.Dec.{leb, eqb}
 use lib.ListN.{length}
 use Rattle.identifiers.specs.Choice.{pick, both}
@@ -101,10 +101,6 @@ module _ (l : List ℕ) where
     pub read-25 : (s.begins && (eqb s.end (length l) && leb s.end 255)) ≡ false → without (Refused (refusal 25)) ≡ line_read l
     unfolding line_read
     read-25 q = passed _ (sym read-test ∙ q) refl
-
--- the last of three tests in a row
-pub last-test : (a b : Bool) (n m : ℕ) → (a && (b && leb n m)) ≡ true → n ≤ m
-last-test a b n m q = leb-true _ _ (both_true _ _ (sym (and_is b (leb n m)) ∙ (both_true _ _ (sym (and_is a (b && leb n m)) ∙ q)).1)).1
 
 -- ---- the answer in numbers
 pub without-answers : (a : LineAnswer) → (without a).answer ≡ a

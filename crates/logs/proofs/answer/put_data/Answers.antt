@@ -1,10 +1,8 @@
 -- `put_data` meets its contract: eight bytes or fewer are put, and there is room for them.
 use mathlib.Core.Path.{◌≡◌, sym, ap, ◌∙◌}
 use mathlib.Core.List.{List}
-use mathlib.Core.Logic.{⊎_elim}
 use Prim.Native.Nat.{ℕ, ◌≤◌, ◌<◌}
 use native.Mathlib.Omega.{arith}
-use borrow.Author.Rules.{rules}
 use lib.ListN.{length, take}
 use lib.Seq.{take_all, length-take-le}
 use Rattle.identifiers.specs.Bytes.{written}
@@ -31,15 +29,17 @@ ended-few {bytes} {count} {end} eight few e =
 pub returns : goal.returns
 returns c =
     let end : Ended c.args.bytes.now c.args.count c.if-room-end.end =
-        elim c.if-room-end.branch [
-          then-room-end w ↦ ended-all c.room.ensures.1 (omega arith) (omega arith)
-        | else-room-end w ↦ ended-few c.room.ensures.1 (omega arith) (omega arith) ] in
+    elim c.if-room-end.branch [
+      | then-room-end w ↦ ended-all c.room.ensures.1 (omega arith) (omega arith)
+      | else-room-end w ↦ ended-few c.room.ensures.1 (omega arith) (omega arith)
+    ] in
     (put-fits (omega (arith, c.room-2.ensures.1, end.near, end.long)) c.put.ensures).holds ∙ ap (written _ 0) end.same
 
 pub slice_bounds-put-end-2 : goal.slice_bounds-put-end-2
 slice_bounds-put-end-2 c =
     let end : Ended c.args.bytes.now c.args.count c.if-room-end.end =
-        elim c.if-room-end.branch [
-          then-room-end w ↦ ended-all c.room.ensures.1 (omega arith) (omega arith)
-        | else-room-end w ↦ ended-few c.room.ensures.1 (omega arith) (omega arith) ] in
+    elim c.if-room-end.branch [
+      | then-room-end w ↦ ended-all c.room.ensures.1 (omega arith) (omega arith)
+      | else-room-end w ↦ ended-few c.room.ensures.1 (omega arith) (omega arith)
+    ] in
     sym end.long

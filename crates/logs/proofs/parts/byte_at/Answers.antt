@@ -1,6 +1,5 @@
 -- `byte_at` meets its contract: past the end the byte is 0.
 use mathlib.Core.Path.{sym}
-use borrow.Author.Rules.{rules}
 use lib.ListN.{get_or-eq_default}
 use Rattle.logs.proofs.parts.byte_at.Goals as goal
 

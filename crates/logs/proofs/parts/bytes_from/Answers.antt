@@ -1,9 +1,8 @@
 -- `bytes_from` meets its contract: after k turns k bytes are put, and with those to come they are all.
-use Prim.Native.Nat.{◌+◌, ◌-◌, ◌*◌, ◌≤◌, ◌<◌}
+use Prim.Native.Nat.{◌+◌, ◌*◌}
 use native.Mathlib.Omega.{arith}
-use borrow.Author.Rules.{rules}
 use lib.ListN.{get_or}
-use Rattle.logs.proofs.LawsPairs.{pair_values, both_small, ToCome, to-come-first, to-come-more, to-come-end, to-come-full}
+use Rattle.logs.proofs.LawsPairs.{pair_values, both_small, to-come-first, to-come-more, to-come-end, to-come-full}
 use Rattle.logs.proofs.parts.bytes_from.Goals as goal
 
 pub loop-k-init : goal.loop-k-init

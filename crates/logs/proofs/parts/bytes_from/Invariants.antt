@@ -1,8 +1,5 @@
-use Prim.Native.Nat.{◌+◌, ◌-◌, ◌*◌, ◌≤◌, ◌<◌}
-use native.Mathlib.Omega.{arith}
-use borrow.Author.Rules.{rules}
-use lib.ListN.{get_or}
-use Rattle.logs.proofs.LawsPairs.{pair_values, both_small, ToCome, to-come-first, to-come-more, to-come-end, to-come-full}
+use Prim.Native.Nat.{◌-◌, ◌≤◌}
+use Rattle.logs.proofs.LawsPairs.{ToCome}
 use Rattle.logs.proofs.parts.bytes_from.Given as goal
 
 abbrev pub invariant-loop-k : goal.invariant-loop-k

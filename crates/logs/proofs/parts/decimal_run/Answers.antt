@@ -1,9 +1,7 @@
 -- `decimal_run` meets its contract: the digits from here end where those from the start end, and the value is that of the digits passed.
-use Prim.Native.Nat.{◌-◌, ◌≤◌}
 use native.Mathlib.Omega.{arith}
-use borrow.Author.Rules.{rules}
-use lib.ListN.{length, get_or}
-use Rattle.logs.proofs.LawsFound.{Running, running-first, running_more, running-stop, running-past, decimal-bounds}
+use lib.ListN.{get_or}
+use Rattle.logs.proofs.LawsFound.{running-first, running_more, running-stop, running-past, decimal-bounds}
 use Rattle.logs.proofs.parts.decimal_run.Goals as goal
 
 pub loop-end-init : goal.loop-end-init

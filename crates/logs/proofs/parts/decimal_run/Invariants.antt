@@ -1,8 +1,6 @@
-use Prim.Native.Nat.{◌-◌, ◌≤◌}
-use native.Mathlib.Omega.{arith}
-use borrow.Author.Rules.{rules}
-use lib.ListN.{length, get_or}
-use Rattle.logs.proofs.LawsFound.{Running, running-first, running_more, running-stop, running-past, decimal-bounds}
+use Prim.Native.Nat.{◌-◌}
+use lib.ListN.{length}
+use Rattle.logs.proofs.LawsFound.{Running}
 use Rattle.logs.proofs.parts.decimal_run.Given as goal
 
 abbrev pub invariant-loop-end : goal.invariant-loop-end

@@ -1,12 +1,10 @@
 -- `digits_in` meets its contract: after i turns the first i bytes between the places are looked at.
 use mathlib.Core.Path.{sym}
-use Prim.Native.Nat.{◌+◌, ◌-◌, ◌*◌, ◌^◌, ◌≤◌}
+use Prim.Native.Nat.{◌≤◌}
 use native.Mathlib.Nat.{mul-le-mul_left}
 use native.Mathlib.Omega.{arith}
-use borrow.Author.Rules.{rules}
-use lib.ListN.{length}
 use Rattle.logs.proofs.LawsRuns.{part-between}
-use Rattle.logs.proofs.LawsFound.{value-small, Reading, reading-first, reading-more, found-short, found-whole}
+use Rattle.logs.proofs.LawsFound.{value-small, reading-first, reading-more, found-short, found-whole}
 use Rattle.logs.proofs.parts.digits_in.Goals as goal
 
 pub returns-then-text-to : goal.returns-then-text-to

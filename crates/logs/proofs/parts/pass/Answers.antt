@@ -1,11 +1,6 @@
 -- `pass` meets its contract: the bytes from here end where those from the start end.
-use mathlib.Core.Path.{◌≡◌, refl, sym, ◌∙◌}
-use Prim.Native.Nat.{◌-◌}
-use borrow.Author.Rules.{rules}
-use lib.ListN.{length}
-use Rattle.text.specs.Digits.{between}
+use mathlib.Core.Path.{refl, sym, ◌∙◌}
 use Rattle.text.proofs.LawsValue.{range-test}
-use Rattle.logs.specs.Parts.{end_of}
 use Rattle.logs.proofs.LawsRuns.{end_more, end-stop, end-past}
 use Rattle.logs.proofs.parts.pass.Goals as goal
 

@@ -1,11 +1,8 @@
-use mathlib.Core.Path.{◌≡◌, refl, sym, ◌∙◌}
+use mathlib.Core.Path.{◌≡◌}
 use Prim.Native.Nat.{◌-◌}
-use borrow.Author.Rules.{rules}
 use lib.ListN.{length}
 use Rattle.text.specs.Digits.{between}
-use Rattle.text.proofs.LawsValue.{range-test}
 use Rattle.logs.specs.Parts.{end_of}
-use Rattle.logs.proofs.LawsRuns.{end_more, end-stop, end-past}
 use Rattle.logs.proofs.parts.pass.Given as goal
 
 abbrev pub invariant-loop-end : goal.invariant-loop-end

@@ -1,12 +1,8 @@
 -- `values_from` meets its contract: after i turns the first i values are put, and 16 stands behind them.
-use mathlib.Core.List.{List}
-use mathlib.Core.Logic.{⊎_elim}
-use Prim.Native.Nat.{ℕ, ◌-◌, ◌+◌, ◌≤◌, ◌<◌}
+use Prim.Native.Nat.{◌≤◌}
 use native.Mathlib.Omega.{arith}
-use borrow.Author.Rules.{rules}
-use lib.ListN.{length}
 use Rattle.logs.proofs.LawsFound.{value-small}
-use Rattle.logs.proofs.LawsPairs.{Counted, Valued, valued-first, valued-more, valued-done}
+use Rattle.logs.proofs.LawsPairs.{Counted, valued-first, valued-more, valued-done}
 use Rattle.logs.proofs.parts.values_from.Goals as goal
 use Rattle.logs.proofs.parts.values_from.Goals.{then-count-gt16, else-count-gt16}
 
@@ -16,9 +12,10 @@ returns-then-text-from c = valued-done (valued-first _ _) (omega arith) (λ l. o
 pub loop-i-init : goal.loop-i-init
 loop-i-init c =
     let counted : Counted c.args.text.now c.args.from c.if-count-gt16.count =
-        elim c.if-count-gt16.branch [
-          then-count-gt16 w ↦ record { most = omega arith; near = omega arith; all = λ l. absurd (omega arith) }
-        | else-count-gt16 w ↦ record { most = omega arith; near = omega arith; all = λ l. omega arith } ] in
+    elim c.if-count-gt16.branch [
+      | then-count-gt16 w ↦ record { most = omega arith; near = omega arith; all = λ l. absurd (omega arith) }
+      | else-count-gt16 w ↦ record { most = omega arith; near = omega arith; all = λ l. omega arith }
+    ] in
     (omega arith, counted, valued-first _ _)
 
 pub loop-i-preserved : goal.loop-i-preserved

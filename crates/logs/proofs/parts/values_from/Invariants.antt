@@ -1,11 +1,5 @@
-use mathlib.Core.List.{List}
-use mathlib.Core.Logic.{⊎_elim}
-use Prim.Native.Nat.{ℕ, ◌-◌, ◌+◌, ◌≤◌, ◌<◌}
-use native.Mathlib.Omega.{arith}
-use borrow.Author.Rules.{rules}
-use lib.ListN.{length}
-use Rattle.logs.proofs.LawsFound.{value-small}
-use Rattle.logs.proofs.LawsPairs.{Counted, Valued, valued-first, valued-more, valued-done}
+use Prim.Native.Nat.{◌-◌, ◌≤◌}
+use Rattle.logs.proofs.LawsPairs.{Counted, Valued}
 use Rattle.logs.proofs.parts.values_from.Given as goal
 
 abbrev pub invariant-loop-i : goal.invariant-loop-i

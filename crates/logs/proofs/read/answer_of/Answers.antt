@@ -1,6 +1,5 @@
 -- `answer_of` meets its contract: one test after the other, as in the definition.
 use mathlib.Core.Path.{sym, ◌∙◌}
-use borrow.Author.Rules.{rules}
 use Rattle.logs.proofs.LawsLines.{answer-over, answer-2, answer-frame}
 use Rattle.logs.proofs.read.answer_of.Goals as goal
 

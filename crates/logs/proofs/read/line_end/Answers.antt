@@ -1,9 +1,5 @@
 -- `line_end` meets its contract: the line from here ends where the line from the start ends.
-use mathlib.Core.Path.{◌≡◌, refl, sym, ◌∙◌}
-use Prim.Native.Nat.{◌-◌}
-use borrow.Author.Rules.{rules}
-use lib.ListN.{length}
-use Rattle.logs.specs.Parts.{end_of}
+use mathlib.Core.Path.{refl, sym, ◌∙◌}
 use Rattle.logs.specs.Fronts.{in_line}
 use Rattle.logs.proofs.LawsRuns.{end-past, end_more, end-stop}
 use Rattle.logs.proofs.LawsFronts.{end_is, in-line, ends-line}

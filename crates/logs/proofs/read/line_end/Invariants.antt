@@ -1,11 +1,8 @@
-use mathlib.Core.Path.{◌≡◌, refl, sym, ◌∙◌}
+use mathlib.Core.Path.{◌≡◌}
 use Prim.Native.Nat.{◌-◌}
-use borrow.Author.Rules.{rules}
 use lib.ListN.{length}
 use Rattle.logs.specs.Parts.{end_of}
 use Rattle.logs.specs.Fronts.{in_line}
-use Rattle.logs.proofs.LawsRuns.{end-past, end_more, end-stop}
-use Rattle.logs.proofs.LawsFronts.{end_is, in-line, ends-line}
 use Rattle.logs.proofs.read.line_end.Given as goal
 
 abbrev pub invariant-loop-at : goal.invariant-loop-at

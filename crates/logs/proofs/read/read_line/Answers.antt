@@ -1,6 +1,5 @@
 -- `read_line` meets its contract: the parts are the whole line, or it is malformed.
 use mathlib.Core.Path.{◌∙◌}
-use borrow.Author.Rules.{rules}
 use Rattle.logs.proofs.LawsLines.{read_whole, read-25}
 use Rattle.logs.proofs.read.read_line.Goals as goal
 

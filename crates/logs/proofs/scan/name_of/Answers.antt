@@ -1,7 +1,5 @@
 -- `name_of` meets its contract: what the calls found is the identifier by its places, with the mark behind three digits or behind eight.
-use Prim.Native.Nat.{◌+◌, ◌^◌, ◌≤◌}
 use native.Mathlib.Omega.{arith}
-use borrow.Author.Rules.{rules}
 use Rattle.logs.proofs.LawsFound.{digits-small}
 use Rattle.logs.proofs.LawsScans.{dot-close, gap-near, name-three, name-eight}
 use Rattle.logs.proofs.scan.name_of.Goals as goal

@@ -1,7 +1,6 @@
 -- `scan` meets its contract: the time, the identifier and the data make the whole.
-use Prim.Native.Nat.{◌+◌, ◌^◌, ◌≤◌}
+use Prim.Native.Nat.{◌+◌}
 use native.Mathlib.Omega.{arith}
-use borrow.Author.Rules.{rules}
 use Rattle.logs.specs.Outcomes.{eight}
 use Rattle.logs.proofs.LawsBegins.{pairs-are}
 use Rattle.logs.proofs.LawsScans.{mark-close, scan-whole, scan-none}

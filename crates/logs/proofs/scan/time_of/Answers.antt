@@ -1,7 +1,6 @@
 -- `time_of` meets its contract: what the calls found is the time by its places.
-use Prim.Native.Nat.{◌^◌, ◌≤◌}
+use Prim.Native.Nat.{◌^◌}
 use native.Mathlib.Omega.{arith}
-use borrow.Author.Rules.{rules}
 use Rattle.logs.proofs.LawsFound.{ran-near, ran-small, digits-small}
 use Rattle.logs.proofs.LawsScans.{time-found}
 use Rattle.logs.proofs.scan.time_of.Goals as goal

@@ -1,10 +1,7 @@
 -- `put_hexes` meets its contract: after i turns the digits of the first i bytes stand in the text.
 use mathlib.Core.Path.{ap}
-use Prim.Native.Nat.{◌-◌, ◌≤◌}
 use borrow.Author.Rules.{rules}
-use lib.ListN.{length, take}
 use lib.Seq.{take_all}
-use Rattle.identifiers.specs.Bytes.{Puts}
 use Rattle.identifiers.proofs.LawsBytes.{puts_none, puts-as, keeps-length}
 use Rattle.logs.specs.Written.{hexes}
 use Rattle.logs.proofs.LawsWritten.{put-more}

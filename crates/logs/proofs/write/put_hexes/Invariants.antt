@@ -1,12 +1,7 @@
-use mathlib.Core.Path.{ap}
 use Prim.Native.Nat.{◌-◌, ◌≤◌}
-use borrow.Author.Rules.{rules}
 use lib.ListN.{length, take}
-use lib.Seq.{take_all}
 use Rattle.identifiers.specs.Bytes.{Puts}
-use Rattle.identifiers.proofs.LawsBytes.{puts_none, puts-as, keeps-length}
 use Rattle.logs.specs.Written.{hexes}
-use Rattle.logs.proofs.LawsWritten.{put-more}
 use Rattle.logs.proofs.write.put_hexes.Given as goal
 
 abbrev pub invariant-loop-i : goal.invariant-loop-i

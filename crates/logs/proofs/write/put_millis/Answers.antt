@@ -1,5 +1,4 @@
 -- `put_millis` meets its contract: the six digits, for which there is room.
-use borrow.Author.Rules.{rules}
 use Rattle.identifiers.proofs.LawsBytes.{keeps-length}
 use Rattle.text.proofs.LawsPutting.{put-fits}
 use Rattle.logs.specs.Written.{millis}

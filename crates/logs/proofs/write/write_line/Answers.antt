@@ -1,11 +1,7 @@
 -- `write_line` meets its contract: refused by 2 and by 3, or its nine parts put in a row, each where there is room for it and for those behind it.
-use mathlib.Core.List.{◌++◌}
 use native.Mathlib.Omega.{arith}
-use borrow.Author.Rules.{rules}
-use Rattle.identifiers.specs.Bytes.{Puts}
-use Rattle.text.specs.Digits.{newline}
-use Rattle.logs.specs.Written.{four_bytes, line_text}
-use Rattle.logs.proofs.LawsWritten.{to_millis, to_name, to_data, PutSoFar, put-seconds, put-stamp, put-name, put-data, write-2, write-3, write-whole}
+use Rattle.logs.specs.Written.{four_bytes}
+use Rattle.logs.proofs.LawsWritten.{put-seconds, put-stamp, put-name, put-data, write-2, write-3, write-whole}
 use Rattle.logs.proofs.WrittenLines.{written-length}
 use Rattle.logs.proofs.write.write_line.Goals as goal
 

@@ -1,6 +1,5 @@
 -- `LineWritten::told` meets its contract: the numbers of each case.
 use mathlib.Core.Path.{sym, ap}
-use borrow.Author.Rules.{rules}
 use Rattle.logs.specs.Written.{line_told}
 use Rattle.logs.proofs.answer.LineWritten.told.Goals as goal
 

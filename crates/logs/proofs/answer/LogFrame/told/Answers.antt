@@ -1,5 +1,4 @@
 -- `LogFrame::told` meets its contract: by the answer's three cases.
-use borrow.Author.Rules.{rules}
 use Rattle.logs.proofs.LawsLines.{told-as}
 use Rattle.logs.proofs.answer.LogFrame.told.Goals as goal
 
