@@ -30,13 +30,7 @@ pub fn castanhiu_frame_count(total: usize) -> usize
     frame_count(total)
 }
 
-pub fn castanhiu_cut(
-    message: &[u8],
-    number: usize,
-    from: u8,
-    to: u8,
-    unit: u8,
-) -> FrameCutTold
+pub fn castanhiu_cut(message: &[u8], number: usize, from: u8, to: u8, unit: u8) -> FrameCutTold
     ensures { result ≡ cut_told (cut_of message.now number from to unit) }
 {
     cut(message, number, from, to, unit).told()

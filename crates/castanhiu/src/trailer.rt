@@ -9,6 +9,12 @@ ghost use Rattle.server.specs.Told.{reply_told};
 use identifiers::AnswerTold;
 use server::{ReplyTold, TrailerRecord, check, serve, set_status};
 
+fn store(statuses: &mut [u8; 63], by: &[u8; 63])
+    ensures { statuses.new ≡ by.now }
+{
+    *statuses = *by;
+}
+
 pub fn castanhiu_record_check(record: &TrailerRecord) -> AnswerTold
     ensures { result ≡ answer_told (checked_as «record».now) }
 {
@@ -26,19 +32,15 @@ pub fn castanhiu_serve(
         × (response.new ≡ (served_of «record».old request.now functional response.old).response)) }
 {
     let served = serve(*record, request, functional, response);
-    record.statuses = served.statuses;
+    store(&mut record.statuses, &served.statuses);
     served.reply.told()
 }
 
-pub fn castanhiu_set_status(
-    record: &mut TrailerRecord,
-    code: u32,
-    status: u8,
-) -> AnswerTold
+pub fn castanhiu_set_status(record: &mut TrailerRecord, code: u32, status: u8) -> AnswerTold
     ensures { («record».new ≡ (setting_of «record».old code status).after)
         × (result ≡ answer_told (setting_of «record».old code status).answer) }
 {
     let set = set_status(*record, code, status);
-    record.statuses = set.statuses;
+    store(&mut record.statuses, &set.statuses);
     set.answer.told()
 }

@@ -14,13 +14,7 @@ pub fn castanhiu_position_after(source: u8) -> AddressTakenTold
 }
 
 // The side is 0 the predecessor or 1 the successor: refusal 1 for another.
-pub fn castanhiu_route(
-    side: u8,
-    own: u8,
-    successor: bool,
-    number: u32,
-    data: &[u8],
-) -> RoutedTold
+pub fn castanhiu_route(side: u8, own: u8, successor: bool, number: u32, data: &[u8]) -> RoutedTold
     ensures { result ≡ routed_told (route_from side own successor number (length «data».now)) }
 {
     if side == 0 {
