@@ -21,7 +21,7 @@ use Rattle.logs.proofs.RoundTrip.{eight-back, written-imports as reads-written, 
 use Rattle.importing.specs.Logs.{LogRead, begun, stamped, refused_at, took_frame, took_line, going, holding, took_byte, took, at_end, imported}
 use Rattle.importing.specs.Lines.{Accepted, no_line, frame_first, over_first, frames_behind, frames_among, over_among}
 use Rattle.importing.specs.Imports.{SomeLines, OneCutting, OneOfBoth, FramesInOrder, EveryLineCounted, FirstBadLine, InPieces, RefusedStays, LongStays}
-use Rattle.importing.specs.Imports.{Writable, AllWritable, no_frame_read, one_more, exported, WrittenImports, ImportedWritable, DemandThreeReads, SameRequests}
+use Rattle.importing.specs.Imports.{Writable, AllWritable, no_frame, one_more, exported, WrittenImports, ImportedWritable, DemandThreeReads, SameRequests}
 use Rattle.importing.proofs.LawsLogs.{goes_on, stops, took-append, took-stops, at-end-none}
 use Rattle.importing.proofs.LawsCuts.{one_list, some-list, accepted-or-bad, never_both}
 use Rattle.importing.proofs.LawsTaken.{reading, took-frame, took-accepted, took-bad, ended, long-ends}
@@ -87,7 +87,7 @@ frame_back f w =
 
 took-exported : (h : Line) → AllWritable h → took begun (exported h) ≡ reading (size h) (size h) 0 h
 unfolding took exported
-took-exported start no_frame_read = rw size_none
+took-exported start no_frame = rw size_none
 took-exported (h ▹ f) (one_more a w) =
     let b = frame_back f w in
     let n : size h + 1 ≡ size (h ▹ f) = omega (arith, size-more h f) in
@@ -112,7 +112,7 @@ line_kept r a = by_answer (line_read r.held).answer refl
     by_answer : (t : LineAnswer) → (line_read r.held).answer ≡ t → AllWritable (took_frame r (line_read r.held) t).sequence
     by_answer line.Frame e = one_more a (frame-kept r.held e)
     by_answer line.PassedOver e = a
-    by_answer (line.Refused why) e = no_frame_read
+    by_answer (line.Refused why) e = no_frame
 
 byte-kept : (r : LogRead) (b : ℕ) → AllWritable r.sequence → AllWritable (took_byte r b).sequence
 unfolding took_byte pick
@@ -139,7 +139,7 @@ end_kept r a = by_answer (going r.answer) (eqb (length r.held) 0)
 
 pub imported-writable : ImportedWritable
 unfolding imported
-imported-writable log = end_kept (took begun log) (took-kept begun log no_frame_read)
+imported-writable log = end_kept (took begun log) (took-kept begun log no_frame)
 
 -- ---- demand 3
 pub demand-three-reads : DemandThreeReads

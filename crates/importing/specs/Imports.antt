@@ -71,7 +71,7 @@ pub record Writable (f : Frame) : Type 0 where
   pub small : f.stamp < 2 ^ 32
 
 pub data AllWritable : Line → Type 0 where
-  no_frame_read : AllWritable start
+  no_frame : AllWritable start
   one_more : {h : Line} {f : Frame} → AllWritable h → Writable f → AllWritable (h ▹ f)
 
 -- the log of a sequence: a line a frame

@@ -1,3 +1,2 @@
 // A whole log imported: statements alone.
 #![tactic(auto)]
-

@@ -1,3 +1,4 @@
+-- What the loop of `bytes_from` keeps true, and what falls at each turn.
 use Prim.Native.Nat.{◌-◌, ◌≤◌}
 use Rattle.logs.proofs.LawsPairs.{ToCome}
 use Rattle.logs.proofs.parts.bytes_from.Given as goal

@@ -1,3 +1,4 @@
+-- What the loop of `decimal_run` keeps true, and what falls at each turn.
 use Prim.Native.Nat.{◌-◌}
 use lib.ListN.{length}
 use Rattle.logs.proofs.LawsFound.{Running}

@@ -1,3 +1,4 @@
+-- What the loop of `digits_in` keeps true, and what falls at each turn.
 use Prim.Native.Nat.{◌-◌}
 use lib.ListN.{length}
 use Rattle.logs.proofs.LawsFound.{Reading}

@@ -1,3 +1,4 @@
+-- What the loop of `values_from` keeps true, and what falls at each turn.
 use Prim.Native.Nat.{◌-◌, ◌≤◌}
 use Rattle.logs.proofs.LawsPairs.{Counted, Valued}
 use Rattle.logs.proofs.parts.values_from.Given as goal

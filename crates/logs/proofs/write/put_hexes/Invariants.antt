@@ -1,3 +1,4 @@
+-- What the loop of `put_hexes` keeps true, and what falls at each turn.
 use Prim.Native.Nat.{◌-◌, ◌≤◌}
 use lib.ListN.{length, take}
 use Rattle.identifiers.specs.Bytes.{Puts}
