@@ -1,3 +1,4 @@
+-- What each turn of `mend` keeps, and what falls.
 use Prim.Native.Nat.{◌-◌}
 use lib.ListN.{length}
 use Rattle.mending.proofs.LawsGoing.{Going}

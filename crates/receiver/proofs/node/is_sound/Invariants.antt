@@ -1,3 +1,4 @@
+-- What each turn of `is_sound` keeps, and what falls.
 use Rattle.std.proofs.Common.{◌≡◌, ◌-◌, ◌≤◌, true, sym, ◌∙◌, arith, rules}
 use borrow.Author.Tests.{not-true, not-false}
 use Rattle.identifiers.specs.Below.{all_below}

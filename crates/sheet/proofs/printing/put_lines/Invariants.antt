@@ -1,3 +1,4 @@
+-- What each turn of `put_lines` keeps, and what falls.
 use Prim.Native.Nat.{◌-◌, ◌≤◌}
 use Rattle.identifiers.specs.Bytes.{Puts}
 use Rattle.sheet.specs.Printed.{lines_of}

@@ -1,3 +1,4 @@
+-- What each turn of `gather` keeps, and what falls.
 use mathlib.Core.Path.{◌≡◌}
 use Prim.Native.Nat.{◌-◌, ◌≤◌}
 use lib.ListN.{length}

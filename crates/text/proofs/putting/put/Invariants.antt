@@ -1,3 +1,4 @@
+-- What each turn of `put` keeps, and what falls.
 use Prim.Native.Nat.{◌+◌, ◌-◌, ◌≤◌}
 use lib.ListN.{length, take}
 use Rattle.identifiers.specs.Bytes.{Puts}

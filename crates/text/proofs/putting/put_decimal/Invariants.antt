@@ -1,3 +1,4 @@
+-- What each turn of `put_decimal` keeps, and what falls.
 use Prim.Native.Nat.{◌+◌, ◌≤◌, ◌<◌}
 use lib.ListN.{length}
 use Rattle.text.proofs.LawsPutting.{ToPut}

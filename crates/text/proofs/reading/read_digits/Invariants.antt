@@ -1,3 +1,4 @@
+-- What each turn of `read_digits` keeps, and what falls.
 use Prim.Native.Nat.{◌-◌, ◌^◌, ◌≤◌, ◌<◌}
 use lib.ListN.{length}
 use Rattle.text.proofs.LawsReading.{ReadSoFar}
