@@ -1,34 +1,48 @@
 # The module of a proved crate for another processor: awk -f module.awk DECLARATIONS MODULE
 #
-#     -v way=x86         the module as it is, for x86-64: what comes out is not compiled
+#     -v way=rattle      the module as it is, for the processor that rattle made it for: what comes out is not compiled
 #     -v way=exported    its exported functions, for a processor with 64-bit addresses
 #     -v way=inner       the functions behind them, as castanhiu_inner_*, for one with 32-bit addresses; the exported ones are left out
-#     -v way=program     its main, and what it calls of the system, as program_*
+#     -v way=program     its start as program_main, and what it calls of the system, as program_*; its main, which is of x86-64, is left out
 #     -v triple= -v attributes=    the target, and what stands for the attributes that are for x86-64
 #     -v logic= -v tool=           the logic that must have proved the module; whose messages these are
 #
-# The module is for x86-64 and not optimised yet. Only what is named here may stand in it: what another kit writes has to be looked at
-# first. DECLARATIONS is what clang makes of the C declarations, for the target.
+# The module is not optimised yet, and for x86-64, or for AArch64 where it is taken as it is. Only what is named here may stand in it: what
+# another kit writes has to be looked at first. DECLARATIONS is what clang makes of the C declarations, for the target.
 BEGIN {
     # None of these depends on the processor but ptr, and its bytes are never looked at: an address is stored and loaded as one.
     words = "define declare internal noundef zeroext void ptr i1 i8 i16 i24 i32 i48 i56 i64 float x label to true false" \
-        " alloca load store getelementptr inbounds nuw nsw align !noundef !range call ret br switch unreachable" \
+        " alloca load store getelementptr inbounds nuw nsw align !noundef !range call ret br switch unreachable extractvalue null" \
         " add sub mul udiv urem and or xor lshr icmp eq ne ult ule ugt uge slt sle sgt sge zext trunc" \
         " uitofp fsub fdiv fcmp oeq"
     count = split(words, list, " ")
     for (i = 1; i <= count; i++) known[list[i]] = 1
+    from = "x86_64-unknown-linux-gnu"
+    layout = "e-m:e-p270:32:32-p271:32:32-p272:64:64-i64:64-i128:128-f80:128-n8:16:32:64-S128"
+    own = "{ nounwind \"probe-stack\"=\"inline-asm\" \"stack-probe-size\"=\"3072\" \"target-cpu\"=\"x86-64-v2\" }"
+    if (way == "rattle" && triple != from) {
+        from = "aarch64-unknown-linux-gnu"
+        layout = "e-m:e-p270:32:32-p271:32:32-p272:64:64-i8:8:32-i16:16:32-i64:64-i128:128-n32:64-S128-Fn32"
+        own = "{ nounwind \"frame-pointer\"=\"non-leaf\" \"probe-stack\"=\"inline-asm\" \"stack-probe-size\"=\"3072\" \"target-cpu\"=\"generic\" }"
+    }
     top["source_filename = \"rattle\""] = 1
-    top["target datalayout = \"e-m:e-p270:32:32-p271:32:32-p272:64:64-i64:64-i128:128-f80:128-n8:16:32:64-S128\""] = 1
-    top["target triple = \"x86_64-unknown-linux-gnu\""] = 1
+    top["target datalayout = \"" layout "\""] = 1
+    top["target triple = \"" from "\""] = 1
     top["!llvm.ident = !{!0}"] = 1
     intrinsic["declare void @llvm.memmove.p0.p0.i64(ptr writeonly captures(none), ptr readonly captures(none), i64, i1 immarg)"] = 1
     intrinsic["declare void @llvm.memset.p0.i64(ptr writeonly captures(none), i8, i64, i1 immarg)"] = 1
-    intrinsic["declare void @llvm.trap()"] = 1
-    own = "{ nounwind \"probe-stack\"=\"inline-asm\" \"target-cpu\"=\"x86-64\" }"
+    intrinsic["declare float @llvm.arithmetic.fence.f32(float)"] = 1
+    common["{ nounwind }"] = 1
     common["{ nobuiltin nounwind }"] = 1
     common["{ nocallback nofree nounwind willreturn memory(argmem: readwrite) }"] = 1
     common["{ nocallback nofree nounwind willreturn memory(argmem: write) }"] = 1
-    common["{ cold noreturn nounwind memory(inaccessiblemem: write) }"] = 1
+    common["{ nocallback nocreateundeforpoison nofree nosync nounwind speculatable willreturn memory(none) }"] = 1
+    # What main does of its own on x86-64, where the system starts a program: it has a pipe that nobody reads answer an error in place of
+    # ending the program, as tools/program.c does too, looks at the processor's features, and says on standard error where one is missing.
+    of_main = "{ nounwind \"probe-stack\"=\"inline-asm\" \"stack-probe-size\"=\"3072\" \"target-cpu\"=\"x86-64\" }"
+    for_main["declare i64 @__sysv_signal(i32, i64)"] = 1
+    for_main["declare ptr @__x86_get_cpuid_feature_leaf(i32)"] = 1
+    for_main["declare i64 @__write(i32, ptr, i64)"] = 1
 }
 
 function say(text) {
@@ -38,10 +52,19 @@ function say(text) {
 
 function refuse(why) { say("line " FNR " of the module has " why ": " $0) }
 
-# Every word of a line, but for names, numbers and marks.
-function look(line,    part, n, i) {
+# Every word of a line, but for names, numbers and marks; and that what it says of places in memory holds on every processor. Numbers side by
+# side lie in the same places on all, and so does one of 64 bits behind an address, which has 4 bytes or 8. Places are counted in bytes.
+function look(line,    part, n, i, rest, shape) {
     gsub(/@"[^"]*"/, " ", line)
     sub(/;.*$/, "", line)
+    rest = line
+    sub(/ \{$/, "", rest)
+    while (match(rest, /\{[^{}]*\}/)) {
+        shape = substr(rest, RSTART, RLENGTH)
+        rest = substr(rest, RSTART + RLENGTH)
+        if (shape !~ /^\{ (i8|i16|i32|i64|float)(, (i8|i16|i32|i64|float))* \}$/ && shape != "{ ptr, i64 }") refuse("a shape that is not known, " shape)
+    }
+    if (line ~ /getelementptr / && line !~ / getelementptr (inbounds nuw )?i8, ptr /) refuse("places that are not counted in bytes")
     gsub(/[][(){},=]/, " ", line)
     n = split(line, part, " ")
     for (i = 1; i <= n; i++) {
@@ -78,9 +101,13 @@ function signature(line, shape, ends, whole,    part, n, i) {
 }
 
 # Whether what the module has and what clang makes of the declaration lie in the same places. Not looked at are noundef, which is of the
-# value, and the extension, which is taken over. For x86-64 both write the same types, and so they do where no struct goes by value.
+# value, and the extension, which is taken over. Of a module as it is both write the same types, and so they do where no struct goes by
+# value.
 function agree(ours, theirs, is_whole) {
     if (ours == theirs) return 1
+    # On 32-bit Arm two numbers come back in the first two registers, one in each, and so do the halves of one of 64 bits, the low one first;
+    # past a number's own bits nobody reads.
+    if (way == "inner") return (ours == "{ i8, i8 }" || ours == "{ i8, i32 }") && theirs == "i64"
     if (way != "exported") return 0
     # A struct of 9 to 16 bytes comes back in the first two registers of results, eight bytes in each, on AArch64 and on RISC-V; so do the
     # two numbers of an LLVM struct or array. What lies past the struct's end nobody reads.
@@ -126,13 +153,16 @@ $0 in top {
 /^attributes #[0-9]+ = / {
     text = substr($0, index($0, "{"))
     if (text == own) sub(/\{.*/, attributes)
+    else if (way == "program" && text == of_main) sub(/\{.*/, "{ nounwind }")
     else if (!(text in common)) refuse("attributes that are not known")
     print
     next
 }
+# Texts: bytes, and no address among them.
+/^@static\.[0-9]+ = private unnamed_addr constant \[[0-9]+ x i8\] c"[^"]*", align 1$/ { print; next }
 /^![0-9]+ = !\{\}$/ || /^![0-9]+ = !\{i8 0, i8 2\}$/ { print; next }
 /^!0 = !\{!"rattle logic=[0-9a-f]+"\}$/ && index($0, "\"rattle logic=" logic) > 0 { proved = 1; print; next }
-/^declare void @llvm\./ {
+/^declare (void|float) @llvm\./ {
     text = $0
     sub(/ #[0-9]+$/, "", text)
     if (!(text in intrinsic)) refuse("an intrinsic that is not known")
@@ -140,6 +170,9 @@ $0 in top {
     next
 }
 /^declare / && way == "program" {
+    text = $0
+    sub(/ #[0-9]+$/, "", text)
+    if (text in for_main) next
     look($0)
     sub(/@/, "@program_")
     print held($0)
@@ -148,16 +181,19 @@ $0 in top {
 /^define / && !inside {
     inside = 1
     look($0)
-    if (way == "inner" && /^define internal .*@"castanhiu::[a-z_]+::castanhiu_[a-z_]+"\(/) {
+    if (way == "inner" && /^define internal .*@"castanhiu_c::[a-z_]+::castanhiu_[a-z_]+"\(/) {
         sub(/^define internal /, "define ")
-        sub(/@"castanhiu::[a-z_]+::castanhiu_/, "@castanhiu_inner_")
+        sub(/@"castanhiu_c::[a-z_]+::castanhiu_/, "@castanhiu_inner_")
         sub(/"/, "")
+        print held($0)
+    } else if (way == "program" && /^define internal noundef i32 @"[a-z_]+::main\+start"\(\)/) {
+        sub(/^define internal noundef i32 @"[a-z_]+::main\+start"/, "define noundef i32 @program_main")
         print held($0)
     } else if (/^define internal /) {
         print
     } else if (way == "program") {
-        sub(/@/, "@program_")
-        print held($0)
+        left_out = 1
+        if (!/^define i32 @main\(\) #[0-9]+ \{$/) refuse("a function that a program does not have")
     } else if (way == "inner") {
         left_out = 1
     } else {
@@ -166,11 +202,15 @@ $0 in top {
     next
 }
 inside && /^}$/ { if (!left_out) print; inside = left_out = 0; next }
-inside && /^[A-Za-z][A-Za-z0-9_.]*:( +; preds = .*)?$/ { if (!left_out) print; next }
+inside && /^[A-Za-z][A-Za-z0-9_.]*:( +; (preds = .*|No predecessors!))?$/ { if (!left_out) print; next }
 inside && /^  / {
     look($0)
+    if (left_out && way == "program" && / call / && !/ call (i64 @__sysv_signal\(i32 13, i64 1\)|ptr @__x86_get_cpuid_feature_leaf\(i32 [02]\)|i32 @"[a-z_]+::main\+start"\(\)|i64 @__write\(i32 2, ptr %r[0-9]+, i64 [0-9]+\))$/) {
+        refuse("what main is not known to call")
+    }
     if (left_out) next
-    if (way == "inner" && /@"castanhiu::[a-z_]+::castanhiu_/) refuse("a call of what the boundary calls")
+    if (way == "inner" && /@"castanhiu_c::[a-z_]+::castanhiu_/) refuse("a call of what the boundary calls")
+    if (way == "program" && /@"[a-z_]+::main\+start"/) refuse("a call of the start")
     if (way == "program" && match($0, /@[A-Za-z0-9_]+\(/)) sub(/@/, "@program_")
     print
     next

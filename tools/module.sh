@@ -1,12 +1,14 @@
 # The module of a proved crate, and its object for a target: for the scripts of tools/ that source this from the project's root, with their
-# name in `tool`. Nothing that comes out of here but for x86-64 is rattle's own: the tests are what tries it.
+# name in `tool`. rattle compiles for x86-64 and AArch64 itself. What comes out of here for another processor is not rattle's own: the tests
+# are what tries it.
 #
 #     of_target TARGET             sets triple, flags, way and attributes; stops at a name that is not known
-#     proved NAME                  proves the crate NAME, writes target/module/NAME.ll and sets how, the words of its compilation
+#     proved NAME [TRIPLE]         proves the crate NAME and has rattle build it for TRIPLE, x86-64 where none is given: sets module and made to
+#                                  the files of its module and of what rattle made of that, how to the words of the compilation
 #     table HEADER FUNCTIONS..     a C file that names all these functions of a header
 #     declared FILE WORDS..        writes FILE: what clang makes of C for the target, as text
-#     retold NAME WAY FILE         the module's text for the target, held to such a FILE (tools/module.awk)
-#     object NAME WAY FILE OUT     writes OUT, the module's object for the target
+#     retold WAY FILE              the module for the target, held to such a FILE (tools/module.awk)
+#     object WAY FILE OUT          writes OUT, the module's object for the target
 #     links FILES..                stops where FILES need anything but `outside`; sets needed to what they need of it
 targets='x86_64-linux-gnu aarch64-linux-gnu riscv64-linux-gnu armv7-linux-gnueabihf thumbv7em-none-eabihf'
 
@@ -16,9 +18,8 @@ pin=$(sed -n 's/.*`\(rattle-kit-[^`]*\)` (`rt version`).*/\1/p' README.md)
 [ -n "$pin" ] || stop 'README.md names no kit'
 [ "$(rt version)" = "$pin" ] || stop "the kit is $(rt version), and what may stand in a module is known of $pin alone"
 logic=${pin##* }
-kit=$(cd "$(dirname "$(rt doc)")/.." && pwd -P)
-own=$kit/on/$(uname -m)
-tools=$own/toolchain
+kit=$(cd "$(dirname "$(rt doc)")" && pwd -P)
+tools=$kit/toolchain
 x86=x86_64-unknown-linux-gnu
 # A script with paths in single quotes is written below.
 case $PWD$kit in *\'*) stop 'a folder with a quote in its name' ;; esac
@@ -29,10 +30,10 @@ trap 'rm -rf "$room"' EXIT
 
 # LLVM probes large stack frames, as on x86-64, on all but Arm.
 of_target() {
-    local probes='{ nounwind "probe-stack"="inline-asm" }'
+    local probes='{ nounwind "probe-stack"="inline-asm" "stack-probe-size"="3072" }'
     case $1 in
     x86_64-linux-gnu) triple=$x86 flags=() way=rattle attributes= ;;
-    aarch64-linux-gnu) triple=aarch64-unknown-linux-gnu flags=(-march=armv8-a) way=exported attributes=$probes ;;
+    aarch64-linux-gnu) triple=aarch64-unknown-linux-gnu flags=(-march=armv8-a) way=rattle attributes=$probes ;;
     riscv64-linux-gnu) triple=riscv64-unknown-linux-gnu flags=(-march=rv64gc -mabi=lp64d) way=exported attributes=$probes ;;
     armv7-linux-gnueabihf)
         triple=armv7-unknown-linux-gnueabihf way=inner attributes='{ nounwind }'
@@ -46,14 +47,15 @@ of_target() {
     esac
 }
 
-# What rattle says to clang of every module but for the target, of a library's and of a program's.
-common=(-ffunction-sections -fdata-sections -mllvm -trap-unreachable -mllvm -no-trap-after-noreturn --no-default-config -no-canonical-prefixes
-    -fintegrated-cc1 -fno-crash-diagnostics -Werror)
+# What rattle says to clang of every module for x86-64 but for the target, of a library's and of a program's.
+common=(-mllvm -no-trap-after-noreturn -ffunction-sections -fdata-sections -mllvm -trap-unreachable -mllvm -no-x86-call-frame-opt
+    -mllvm -disable-machine-licm -mllvm -disable-postra-machine-licm -mllvm -sink-common-insts=false --no-default-config
+    -no-canonical-prefixes -fintegrated-cc1 -fno-crash-diagnostics -Werror)
 how_library=(-fPIC -O3)
 how_program=(-fPIE -O3 -Xclang -fmerge-functions -mllvm -mergefunc-use-aliases)
 
-# rattle gives the module to the clang of a folder that it is told, once, in a temporary folder and with an empty environment. The clang of
-# this folder keeps what it is given, and does what it is asked.
+# rattle gives the module to the clang of a folder that it is told, in a temporary folder and with an empty environment. The clang of this
+# folder keeps what it is given, and does what it is asked.
 keeper() { # FOLDER
     local file
     mkdir -p "$1/bin"
@@ -70,30 +72,68 @@ END
     chmod +x "$1/bin/clang"
 }
 
-# The first line of the text is the stamp of what was proved: where it is the same, nothing is built again.
-proved() {
-    local name=$1 file=crates/$1/src/lib.rt words=() kind=(--crate-type staticlib) stamp d folder=$room/toolchain text=target/module/$1.ll
+# A crate and those of the repository under it.
+under() { # NAME
+    awk -v name="$1" '
+        { sub(/#.*/, "") }
+        /:/ { at = index($0, ":"); split(substr($0, 1, at - 1), word, " "); uses[word[1]] = substr($0, at + 1) }
+        END {
+            found[count = 1] = name
+            for (i = 1; i <= count; i++) {
+                print found[i]
+                n = split(uses[found[i]], part, " ")
+                for (k = 1; k <= n; k++) if (part[k] in uses && !(part[k] in seen)) { seen[part[k]] = 1; found[++count] = part[k] }
+            }
+        }' crates.txt
+}
+
+# A sum of all that they are proved from.
+sum_of() { # NAME
+    local crate
+    {
+        cat crates.txt
+        for crate in $(under "$1" | sort); do
+            find "crates/$crate" -name out -prune -o -type f \( -name '*.rt' -o -name '*.antt' \) -exec sha256sum {} + | sort -k 2
+        done
+    } | sha256sum | sed 's/ .*//'
+}
+
+# The first line of the text is the stamp of what was proved: where it is the same, nothing is proved or built again.
+proved() { # NAME [TRIPLE]
+    local name=$1 end=${2:-$x86} file=src/lib.rt words=() kind=(--crate-type staticlib) by=check stamp crate folder
+    module=target/module/$name-$end.ll made=target/module/$name-$end
     how=("${how_library[@]}")
-    if [ ! -f "$file" ]; then file=crates/$name/src/main.rt kind=() how=("${how_program[@]}"); fi
-    [ -f "$file" ] || stop "no crate $name"
-    rt check "$name" </dev/null >"$room/said" 2>&1 || { tail -n 20 "$room/said" >&2; stop "$name is not proved"; }
-    stamp="; $pin $(cat "target/stamp/$name")"
-    if [ -f "$text" ] && [ "$(head -n 1 "$text")" = "$stamp" ]; then return; fi
-    for d in $(sed -n "s/^$name: *//p" crates.txt); do
-        if [ -d "crates/$d" ]; then words+=(--extern "$d=$PWD/target/rlib/$d.rlib"); else words+=(--extern "$d=$own/rlib/$d.rlib"); fi
+    if [ ! -f "crates/$name/$file" ]; then file=src/main.rt kind=() how=("${how_program[@]}"); fi
+    [ -f "crates/$name/$file" ] || stop "no crate $name"
+    stamp="; $pin $(sum_of "$name")"
+    if [ -f "$module" ] && [ -f "$made" ] && [ "$(head -n 1 "$module")" = "$stamp" ]; then return; fi
+    if [ "$file $end" = "src/lib.rt $x86" ]; then by=lib; fi
+    (cd "crates/$name" && rt "$by" </dev/null) >"$room/said" 2>&1 || { tail -n 20 "$room/said" >&2; stop "$name is not proved"; }
+    for crate in $(sed -n "s/#.*//; s/^$name\( staticlib\)* *: *//p" crates.txt); do
+        if [ -d "crates/$crate" ]; then words+=(--extern "$crate=$PWD/crates/$crate/out/rlib/$crate.rlib"); else words+=(--extern "$crate=$kit/rlibs/$crate.rlib"); fi
     done
+    for crate in $(under "$name"); do [ "$crate" = "$name" ] || words+=(-L "dependency=$PWD/crates/$crate/out/rlib"); done
+    folder=$room/toolchain-$end
     keeper "$folder"
-    "$own/bin/rattle" build --crate-name "$name" "$PWD/$file" --extern "std=$own/rlib/std.rlib" "${words[@]}" -L "dependency=$PWD/target/rlib" \
-        -L "dependency=$own/rlib" --antt-project "$kit/logic/antt-project.json" --logic-built "$own/logic-built" --toolchain "$folder" \
-        "${kind[@]}" -o "$room/built" >"$room/said" 2>&1 || { tail -n 20 "$room/said" >&2; stop "$name is not built"; }
-    grep -q "^logic=proved .* sum=$logic " "$room/said" || stop "rattle does not say that $name is proved"
+    (
+        cd "crates/$name"
+        "$kit/bin/rattle" build --crate-name "$name" "$file" --extern "std=$kit/rlibs/std.rlib" "${words[@]}" -L "dependency=$kit/rlibs" \
+            --antt-project "$kit/rattle/logic/antt-project.json" --logic-built "$kit/logic_built" --links "$name=" "${kind[@]}" \
+            --target "$end" --backend llvm --toolchain "$folder" --incremental out/incremental -o "$room/built"
+    ) >"$room/said" 2>&1 || { tail -n 20 "$room/said" >&2; stop "$name is not built"; }
+    grep -q "^logic=proved .*target=$end .*sum=$logic " "$room/said" || stop "rattle does not say that $name is proved"
     if grep -q '^logic=proved .*foreign=' "$room/said"; then stop "$name declares C functions of its own"; fi
-    [ "$(cat "$folder/words")" = "--target=$x86 -march=x86-64 ${common[*]} -c -x ir module.bc -o module.o ${how[*]} --sysroot=$folder" ] ||
-        stop "rattle calls clang otherwise than is known: $(cat "$folder/words")"
+    if [ "$end" = "$x86" ]; then
+        [ "$(cat "$folder/words")" = "--target=$x86 --sysroot=$folder -march=x86-64 ${common[*]} -c -x ir module.bc -o module.o ${how[*]}" ] ||
+            stop "rattle calls clang otherwise than is known: $(cat "$folder/words")"
+    fi
+    if [ "$by" = lib ] && ! cmp "$room/built" "crates/$name/out/lib$name.a"; then stop 'rt lib writes another archive'; fi
     mkdir -p target/module
-    "$tools/bin/clang" --target="$x86" -S -emit-llvm -O3 -Xclang -disable-llvm-passes -x ir "$folder/module.bc" -o "$room/text"
+    "$tools/bin/clang" --target="$end" -S -emit-llvm -O3 -Xclang -disable-llvm-passes -x ir "$folder/module.bc" -o "$room/text"
     { echo "$stamp"; cat "$room/text"; } >"$room/stamped"
-    mv -f "$room/stamped" "$text"
+    rm -rf "$folder" "$module"
+    mv -f "$room/built" "$made"
+    mv -f "$room/stamped" "$module"
 }
 
 # The three headers that castanhiu.h names say the same of every target; clang's own are not in the kit.
@@ -111,14 +151,13 @@ declared() { # FILE WORDS..
     "$tools/bin/clang" --target="$triple" "${flags[@]}" "${c_words[@]}" "$@" -S -emit-llvm -O0 -o "$file" || stop 'clang refuses the C declarations'
 }
 
-retold() { # NAME WAY FILE
-    awk -v way="$2" -v triple="$triple" -v attributes="$attributes" -v logic="$logic" -v tool="$tool" -f tools/module.awk "$3" "target/module/$1.ll"
+retold() { # WAY FILE
+    awk -v way="$1" -v triple="$triple" -v attributes="$attributes" -v logic="$logic" -v tool="$tool" -f tools/module.awk "$2" "$module"
 }
 
-object() { # NAME WAY FILE OUT
-    local text=$room/$1.ll
-    retold "$1" "$2" "$3" >"$text" || stop "the module of $1 is not compiled for $triple"
-    "$tools/bin/clang" --target="$triple" "${common[@]}" "${how[@]}" "${flags[@]}" -c -x ir "$text" -o "$4" || stop "clang refuses the module of $1"
+object() { # WAY FILE OUT
+    retold "$1" "$2" >"$room/retold.ll" || stop "the module is not compiled for $triple"
+    "$tools/bin/clang" --target="$triple" "${common[@]}" "${how[@]}" "${flags[@]}" -c -x ir "$room/retold.ll" -o "$3" || stop 'clang refuses the module'
 }
 
 links() { # FILES..

@@ -3,15 +3,18 @@
 
 #include <errno.h>
 #include <limits.h>
+#include <signal.h>
 #include <unistd.h>
 
 static int count;
 static char **words;
 
+/* A write to a pipe that nobody reads is to fail, and not to end the program: so does the main that the kit makes for x86-64. */
 int main(int argc, char **argv)
 {
     count = argc;
     words = argv;
+    signal(SIGPIPE, SIG_IGN);
     return program_main();
 }
 
@@ -39,11 +42,6 @@ int32_t program_rattle_errno(void)
 void program_rattle_set_errno(int32_t error)
 {
     errno = error;
-}
-
-uint64_t program_rattle_arg_count(void)
-{
-    return (uint64_t)count;
 }
 
 /* Argument `number` at the start of the bytes: its length, -1 where there is none, or -2 where it does not fit, and the bytes are full. */

@@ -7,5 +7,4 @@ int64_t program_read(int32_t file, uint8_t *bytes, uint64_t length);
 int64_t program_write(int32_t file, const uint8_t *bytes, uint64_t length);
 int32_t program_rattle_errno(void);
 void program_rattle_set_errno(int32_t error);
-uint64_t program_rattle_arg_count(void);
 int64_t program_rattle_arg(uint64_t number, uint8_t *bytes, uint64_t length);

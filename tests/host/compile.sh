@@ -1,19 +1,16 @@
 # Compiles C against the archive and runs it, for the scripts that source this from the project's root.
 #
-#     compiled PROGRAM FLAGS.. FILES..    writes PROGRAM, for x86-64
+#     compiled PROGRAM FLAGS.. FILES..    writes PROGRAM
 #     running PROGRAM ARGUMENTS..         runs it, behind the words of `runner`
-#     own PROGRAM FLAGS.. FILES..         writes PROGRAM, for the machine itself; fails where `has_own` does
 #     sizes ARCHIVE                       its bytes of code, of constants (on Arm with the index for unwinding), of data and of zeroed data
 #
-# The archive that rt writes is for x86-64. There the machine's own `cc` compiles; elsewhere, and where KIT=1 is set, the kit's clang
-# does, with the C library that the kit brings, and on another processor the kit's emulator runs the program.
-kit=$(dirname "$(dirname "$(rt doc)")")
-tools=$kit/on/$(uname -m)/toolchain
+# The kit is for x86-64. The machine's own `cc` compiles, and where KIT=1 is set the kit's clang does, with the C library that the kit brings.
+[ "$(uname -m)" = x86_64 ] || { echo "$0: the kit is for x86-64, and this is $(uname -m)" >&2; exit 1; }
+kit=$(dirname "$(rt doc)")
+tools=$kit/toolchain
 library=$tools/lib
 host=tests/host
 flags='-std=c11 -Wall -Wextra -Werror -Iinclude'
-asked=${KIT:-0}
-if [ "$(uname -m)" != x86_64 ]; then KIT=1; fi
 
 compiled() {
     local program=$1 objects=() words=() word object
@@ -46,22 +43,9 @@ compiled() {
 
 # What stands in front of a program that is run.
 runner=()
-if [ "${KIT:-0}" = 1 ]; then
-    runner=("$library/ld-linux-x86-64.so.2" --library-path "$library")
-    if [ -x "$tools/bin/qemu-x86_64" ]; then runner=("$tools/bin/qemu-x86_64" "${runner[@]}"); fi
-fi
+if [ "${KIT:-0}" = 1 ]; then runner=("$library/ld-linux-x86-64.so.2" --library-path "$library"); fi
 
 running() { "${runner[@]}" "$@"; }
-
-# What links no archive for x86-64 needs no emulator: the machine's own `cc` compiles it, unless the kit's was asked for.
-has_own() { [ "$asked" != 1 ] && command -v "${CC:-cc}" >/dev/null; }
-
-own() {
-    local program=$1
-    shift
-    # shellcheck disable=SC2086
-    has_own && ${CC:-cc} $flags "$@" -o "$program"
-}
 
 sizes() {
     if ! command -v size >/dev/null; then echo 'not measured: size is missing'; return; fi
