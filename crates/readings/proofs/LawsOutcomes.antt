@@ -47,6 +47,34 @@ module _ (k : Kind) (raw high : ℕ) where
   pub high-20 : 255 < high → measured_by k raw high ≡ parameter.Refused (refusal 20)
   high-20 h = past-254 (omega arith) ∙ pick-false _ _ (ne_eqb high 255 (λ (e : high ≡ 255). omega arith))
 
+-- ---- the same of the raw number's own high byte
+module _ (k : Kind) (raw : ℕ) where
+  pub measured-value : high_byte k.bytes raw ≤ 250 → measured_as k raw ≡ in_range k raw
+  unfolding measured_as
+  measured-value h = high_value k raw _ h
+
+  pub measured-indicator : high_byte k.bytes raw ≡ 251 → measured_as k raw ≡ without_value Indicator
+  unfolding measured_as
+  measured-indicator h = high-indicator k raw _ h
+
+  pub measured-reserved : 251 < high_byte k.bytes raw → high_byte k.bytes raw ≤ 253 → measured_as k raw ≡ without_value Reserved
+  unfolding measured_as
+  measured-reserved h l = high-reserved k raw _ h l
+
+  pub measured-error : high_byte k.bytes raw ≡ 254 → measured_as k raw ≡ without_value Error
+  unfolding measured_as
+  measured-error h = high-error k raw _ h
+
+  pub measured-not-available : high_byte k.bytes raw ≡ 255 → measured_as k raw ≡ without_value NotAvailable
+  unfolding measured_as
+  measured-not-available h = high-not-available k raw _ h
+
+  pub measured-20 : 255 < high_byte k.bytes raw → measured_as k raw ≡ parameter.Refused (refusal 20)
+  unfolding measured_as
+  measured-20 h = high-20 k raw _ h
+
+pub ruleset measured_rungs = (measured-value, measured-indicator, measured-reserved, measured-error, measured-not-available, measured-20)
+
 -- "raw 126..250 beyond range" of percent load: past the last raw number in range
 pub beyond-range : (k : Kind) (raw : ℕ) → k.last < raw → in_range k raw ≡ without_value BeyondRange
 unfolding in_range

@@ -85,6 +85,7 @@ fn in_range(kind: Kind, raw: u32) -> ParameterRead
     })
 }
 
+#[tactic(auto, using(crate::proofs::LawsOutcomes::measured_rungs))]
 fn measure(kind: Kind, raw: u32) -> ParameterRead
     requires { Sound kind }
     ensures { result ≡ measured_as kind raw }

@@ -1,6 +1,5 @@
 -- `physical` meets its contract: each of the three numbers is a whole number of fewer than 24 digits, so nothing is rounded.
 use native.Mathlib.Omega.{arith}
-use borrow.Author.Rules.{rules}
 use Rattle.readings.proofs.LawsFractions.{physical-is}
 use Rattle.readings.proofs.kind.physical.Goals as goal
 

@@ -1,6 +1,5 @@
 -- `whole` meets its contract: both numbers are below 2 ^ 16, so their difference fits.
 use native.Mathlib.Omega.{arith}
-use borrow.Author.Rules.{rules}
 use mir.Syntax.{w32}
 use Rattle.readings.proofs.LawsWholes.{difference-fits, difference-read}
 use Rattle.readings.proofs.kind.whole.Goals as goal

@@ -1,6 +1,6 @@
 -- `in_range` meets its contract: past the last raw number it is beyond range, and else the exact value.
 use mathlib.Core.Path.{sym}
-use borrow.Author.Rules.{rules, sfits_of}
+use borrow.Author.Rules.{sfits_of}
 use borrow.Author.Tests.{lt-ltb}
 use mir.Syntax.{w32}
 use mir.Facts.{to_z-of_z}

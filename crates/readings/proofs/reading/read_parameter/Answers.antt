@@ -1,6 +1,5 @@
 -- `read_parameter` meets its contract: a kind over 7 is refusal 20, and every other has a sound row.
 use mathlib.Core.Path.{refl, sym, ap, subst, ◌∙◌}
-use borrow.Author.Rules.{rules}
 use borrow.Author.Tests.{lt-ltb, le-ltb}
 use Rattle.identifiers.proofs.LawsChoice.{taken, passed}
 use Rattle.readings.specs.declared.kind.Kind.{Kind}

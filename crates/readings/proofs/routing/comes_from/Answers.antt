@@ -1,5 +1,4 @@
 -- `comes_from` meets its contract: by the side.
-use borrow.Author.Rules.{rules}
 use Rattle.identifiers.proofs.LawsChoice.{and_is}
 use Rattle.readings.specs.Routes.{comes_from}
 use Rattle.readings.proofs.routing.comes_from.Goals as goal

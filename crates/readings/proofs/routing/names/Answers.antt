@@ -1,5 +1,4 @@
 -- `names` meets its contract: by what PS is.
-use borrow.Author.Rules.{rules}
 use Rattle.identifiers.proofs.LawsChoice.{or_is}
 use Rattle.readings.specs.Routes.{named}
 use Rattle.readings.proofs.routing.names.Goals as goal

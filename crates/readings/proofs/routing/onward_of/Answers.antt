@@ -1,6 +1,5 @@
 -- `onward_of` meets its contract: to the other side, by whether a successor exists.
 use mathlib.Core.Path.{refl}
-use borrow.Author.Rules.{rules}
 use Rattle.identifiers.proofs.LawsChoice.{taken, passed}
 use Rattle.readings.specs.Routes.{onward_of}
 use Rattle.readings.proofs.routing.onward_of.Goals as goal

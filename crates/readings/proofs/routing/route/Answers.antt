@@ -1,6 +1,5 @@
 -- `route` meets its contract: each return is at one of the laws of `route_of`. The second is never reached, and `search` says so.
 use mathlib.Core.Path.{sym, ◌∙◌}
-use borrow.Author.Rules.{rules}
 use Rattle.readings.proofs.LawsRoutes.{route-1, route-refused, route-read}
 use Rattle.readings.proofs.routing.route.Goals as goal
 

@@ -1,6 +1,5 @@
 -- `AddressTaken::told` meets its contract: the numbers of each case.
 use mathlib.Core.Path.{sym, ap}
-use borrow.Author.Rules.{rules}
 use Rattle.readings.specs.Positions.{address_told}
 use Rattle.readings.proofs.position.AddressTaken.told.Goals as goal
 

@@ -1,6 +1,5 @@
 -- `Position::after` meets its contract: by the vehicle that has the address, to the one after it.
 use mathlib.Core.Path.{sym, ◌∙◌}
-use borrow.Author.Rules.{rules}
 use Rattle.readings.proofs.LawsPositions.{after_none, after_last, after_next}
 use Rattle.readings.proofs.position.Position.after.Goals as goal
 

@@ -1,6 +1,5 @@
 -- `Position::predecessor` meets its contract: each arm has what the definition computes at its case.
 use mathlib.Core.Path.{sym, ap}
-use borrow.Author.Rules.{rules}
 use Rattle.identifiers.specs.Choice.{pick}
 use Rattle.readings.specs.Positions.{predecessor_of, position_at}
 use Rattle.readings.proofs.position.Position.predecessor.Goals as goal

@@ -1,6 +1,5 @@
 -- `TwoBitsRead::told` meets its contract: the numbers of each case.
 use mathlib.Core.Path.{sym, ap}
-use borrow.Author.Rules.{rules}
 use Rattle.readings.specs.Readings.{two_bits_told}
 use Rattle.readings.proofs.reading.TwoBitsRead.told.Goals as goal
 

@@ -1,6 +1,5 @@
 -- `Routed::told` meets its contract: the numbers of each case.
 use mathlib.Core.Path.{sym, ap}
-use borrow.Author.Rules.{rules}
 use Rattle.readings.specs.Routes.{routed_told}
 use Rattle.readings.proofs.routing.Routed.told.Goals as goal
 
