@@ -1,5 +1,5 @@
 -- The rules of a lent node, as they are asked: own position, unit, then each reception; and what they give.
-use Rattle.std.proofs.Common.{◌≡◌, ℕ, ◌<◌, ◌≤◌, Bool, true, false, leb, length, sym, refl, ap, ◌∙◌, arith, le-leb, leb-true}
+use Rattle.std.proofs.Common.{◌≡◌, ℕ, ◌<◌, ◌≤◌, Bool, true, false, leb, sym, refl, ap, ◌∙◌, arith, le-leb, leb-true}
 use borrow.Author.Tests.{lt-leb}
 use Rattle.identifiers.specs.Choice.{both}
 use Rattle.identifiers.specs.Below.{all_below}

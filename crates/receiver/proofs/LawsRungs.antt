@@ -1,5 +1,5 @@
 -- Refusals 2 to 10 of a frame by itself, and 12, 9, 13 and 14 of a consecutive frame, exactly where document 01 gives them: where its own check fails and all before it hold.
-use Rattle.std.proofs.Common.{◌≡◌, ℕ, ◌≤◌, false, ◌↔◌, List, length, refl, ap, ◌∙◌, subst, arith, lit≤, ltb-false, ltb-true, le-ltb, lt-ltb, eq-eqb, ne_eqb, eqb-true}
+use Rattle.std.proofs.Common.{◌≡◌, ℕ, ◌≤◌, false, ◌↔◌, List, refl, ap, ◌∙◌, subst, arith, lit≤, ltb-false, ltb-true, le-ltb, lt-ltb, eq-eqb, ne_eqb, eqb-true}
 use borrow.Author.Tests.{eqb-false}
 use Rattle.identifiers.specs.Refusals.{refusal, number_of}
 use Rattle.identifiers.specs.declared.refusal.Refusal.{Refusal}

@@ -10,6 +10,9 @@ use readings::{AddressTaken, Position, Vehicle};
 // How many numbers a node has.
 pub const NODE: usize = 20;
 
+// A unit is a byte.
+const LARGEST_UNIT: u32 = 255;
+
 // A node has as many numbers as its type says.
 pub fn count(node: &[u32; NODE]) -> usize
     ensures { (result ≡ 20) × (length node.now ≡ 20) }
@@ -56,7 +59,7 @@ pub fn is_sound(node: &[u32; NODE]) -> bool
     if 5 < node[0] {
         return false;
     }
-    if 255 < node[1] {
+    if LARGEST_UNIT < node[1] {
         return false;
     }
     let mut p = 0;

@@ -13,6 +13,9 @@ use crate::reception::{Reception, region};
 use identifiers::Refusal;
 use readings::Position;
 
+// The longest gap between two frames of a train, in milliseconds.
+const LONGEST_GAP: u32 = 150;
+
 // What a frame does: its vehicle's reception afterwards, and its outcome in numbers.
 #[derive(Clone, Copy)]
 pub struct StepTold {
@@ -133,7 +136,7 @@ fn follow(
     if number as usize != (taken + 1) % 16 {
         return close(Outcome::Refused(Refusal::WrongNumber).told());
     }
-    if 150 < gap(stamp, reception.last) {
+    if LONGEST_GAP < gap(stamp, reception.last) {
         return close(Outcome::Refused(Refusal::Late).told());
     }
     take(buffer, data, reception, done, from, stamp)

@@ -1,5 +1,5 @@
 -- `addressed_by` meets its contract: 5, 6, 7 and 8 in their order, then from whom the frame is.
-use Rattle.std.proofs.Common.{◌≡◌, ℕ, List, true, ◌&&◌, ◌||◌, eqb, sym, refl, ap, ◌∙◌, rules, eq-eqb, ne_eqb}
+use Rattle.std.proofs.Common.{◌≡◌, ℕ, List, true, ◌&&◌, ◌||◌, eqb, sym, refl, ap, ◌∙◌, eq-eqb, ne_eqb}
 use Rattle.identifiers.specs.Choice.{both}
 use Rattle.identifiers.specs.declared.identifier.Identifier.{Identifier}
 use Rattle.identifiers.proofs.LawsChoice.{taken, passed, and_is, or_is}

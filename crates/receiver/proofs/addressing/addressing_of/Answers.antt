@@ -1,5 +1,5 @@
 -- `addressing_of` meets its contract: by what the identifier's reader answers.
-use Rattle.std.proofs.Common.{sym, ap, ◌∙◌, rules}
+use Rattle.std.proofs.Common.{sym, ap, ◌∙◌}
 use Rattle.receiver.specs.Addressings.{addressed_read, addressing_of}
 use Rattle.receiver.proofs.addressing.addressing_of.Goals as goal
 

@@ -1,5 +1,5 @@
 -- `is_unit` meets its contract: no byte is no unit.
-use Rattle.std.proofs.Common.{length, refl, arith, rules, le-leb}
+use Rattle.std.proofs.Common.{length, refl, arith, le-leb}
 use borrow.Author.Tests.{lt-leb}
 use Rattle.identifiers.proofs.LawsChoice.{stop, so}
 use Rattle.receiver.specs.Addressings.{unit_is}

@@ -1,5 +1,5 @@
 -- `put_three` meets its contract: three stores in a row.
-use Rattle.std.proofs.Common.{arith, length-set, rules}
+use Rattle.std.proofs.Common.{arith, length-set}
 use Rattle.identifiers.proofs.LawsBytes.{puts-byte, ◌▸◌}
 use Rattle.receiver.proofs.bytes.put_three.Goals as goal
 

@@ -1,5 +1,5 @@
 -- `store` meets its contract: after i turns the first i bytes are in.
-use Rattle.std.proofs.Common.{◌≡◌, ℕ, ◌+◌, ◌-◌, ◌<◌, ◌≤◌, List, length, get_or, take, drop, set, sym, refl, arith, length-drop, get_or-drop}
+use Rattle.std.proofs.Common.{◌≡◌, ℕ, ◌+◌, ◌<◌, List, length, get_or, take, drop, set, sym, refl, arith, length-drop, get_or-drop}
 use Rattle.identifiers.specs.Bytes.{Puts}
 use Rattle.identifiers.proofs.LawsBytes.{written_none, copy_more, keeps-length}
 use Rattle.receiver.proofs.bytes.store.Goals as goal

@@ -1,7 +1,6 @@
 -- What each turn of `store` keeps, and what falls.
-use Rattle.std.proofs.Common.{◌≡◌, ℕ, ◌+◌, ◌-◌, ◌<◌, ◌≤◌, List, length, get_or, take, drop, set, sym, refl, arith, length-drop, get_or-drop}
+use Rattle.std.proofs.Common.{◌+◌, ◌-◌, ◌≤◌, take, drop}
 use Rattle.identifiers.specs.Bytes.{Puts}
-use Rattle.identifiers.proofs.LawsBytes.{written_none, copy_more, keeps-length}
 use Rattle.receiver.proofs.bytes.store.Given as goal
 
 abbrev pub invariant-loop-i : goal.invariant-loop-i

@@ -1,5 +1,5 @@
 -- `store_six` meets its contract: the six bytes that stand at `start`, in two runs of three.
-use Rattle.std.proofs.Common.{◌≡◌, ℕ, suc, ◌+◌, ◌<◌, ◌≤◌, List, [], ◌∷◌, length, get_or, take, drop, sym, ap, ◌∙◌, arith, drop-cons, rules}
+use Rattle.std.proofs.Common.{◌≡◌, ℕ, suc, ◌+◌, ◌<◌, ◌≤◌, List, [], ◌∷◌, length, get_or, take, drop, sym, ap, ◌∙◌, arith, drop-cons}
 use Rattle.identifiers.specs.Bytes.{written}
 use Rattle.identifiers.proofs.LawsBytes.{written-append}
 use Rattle.receiver.proofs.bytes.store_six.Goals as goal

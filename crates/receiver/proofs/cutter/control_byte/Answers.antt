@@ -1,5 +1,5 @@
 -- `control_byte` meets its contract: the byte of each control.
-use Rattle.std.proofs.Common.{sym, ap, rules}
+use Rattle.std.proofs.Common.{sym, ap}
 use Rattle.receiver.specs.Cuts.{control_byte}
 use Rattle.receiver.proofs.cutter.control_byte.Goals as goal
 

@@ -1,5 +1,5 @@
 -- `cut` meets its contract: 16 for the positions and the frame, and else the frame.
-use Rattle.std.proofs.Common.{eqb, sym, ◌∙◌, rules, leb-false}
+use Rattle.std.proofs.Common.{eqb, sym, ◌∙◌, leb-false}
 use Rattle.identifiers.proofs.LawsChoice.{taken, passed, or_is, either-false}
 use Rattle.receiver.specs.Cuts.{cut_of}
 use Rattle.receiver.proofs.LawsPieces.{none-else, between_first, between-second, between-both}

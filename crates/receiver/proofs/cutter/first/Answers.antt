@@ -1,5 +1,5 @@
 -- `first` meets its contract: three bytes of head, and the first five message bytes behind them.
-use Rattle.std.proofs.Common.{◌∙◌, rules}
+use Rattle.std.proofs.Common.{◌∙◌}
 use Rattle.receiver.proofs.LawsPieces.{headed-three}
 use Rattle.receiver.proofs.cutter.first.Goals as goal
 

@@ -1,5 +1,5 @@
 -- `flow_control` meets its contract: 16 for the positions, and else the frame.
-use Rattle.std.proofs.Common.{sym, ◌∙◌, rules, eq-eqb, ne_eqb}
+use Rattle.std.proofs.Common.{sym, ◌∙◌, eq-eqb, ne_eqb}
 use Rattle.identifiers.proofs.LawsChoice.{taken, passed}
 use Rattle.receiver.specs.Cuts.{flow_control_of}
 use Rattle.receiver.proofs.LawsPieces.{headed-control, none-else, between_first, between-second, between-both}

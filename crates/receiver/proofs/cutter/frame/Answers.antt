@@ -1,5 +1,5 @@
 -- `frame` meets its contract: the identifier is what the writer gives, and its refusal is 16.
-use Rattle.std.proofs.Common.{◌≡◌, ℕ, sym, ap, ◌∙◌, rules}
+use Rattle.std.proofs.Common.{◌≡◌, ℕ, sym, ap, ◌∙◌}
 use Rattle.identifiers.specs.Identifiers.{written_as}
 use Rattle.identifiers.specs.declared.identifier.IdentifierWritten.{IdentifierWritten}
 use Rattle.readings.specs.Positions.{address_of}

@@ -1,5 +1,5 @@
 -- `frame_count` meets its contract: L / 6 is the ceiling of (L - 5) / 6.
-use Rattle.std.proofs.Common.{sym, refl, arith, rules, le-ltb, lt-ltb, eq-eqb, ne_eqb, le-leb}
+use Rattle.std.proofs.Common.{sym, refl, arith, le-ltb, lt-ltb, eq-eqb, ne_eqb, le-leb}
 use borrow.Author.Tests.{lt-leb}
 use Rattle.identifiers.proofs.LawsChoice.{taken, passed, left-holds, right-decides}
 use Rattle.receiver.specs.Cuts.{frame_count}

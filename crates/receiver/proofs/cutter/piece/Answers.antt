@@ -1,5 +1,5 @@
 -- `piece` meets its contract: by how long the message is and which frame is asked.
-use Rattle.std.proofs.Common.{◌+◌, ◌-◌, ◌*◌, length, arith, rules, eq-eqb, ne_eqb, le-leb}
+use Rattle.std.proofs.Common.{◌+◌, ◌-◌, ◌*◌, length, arith, eq-eqb, ne_eqb, le-leb}
 use borrow.Author.Tests.{lt-leb}
 use Rattle.identifiers.proofs.LawsChoice.{taken, passed}
 use Rattle.receiver.specs.Cuts.{piece_of}

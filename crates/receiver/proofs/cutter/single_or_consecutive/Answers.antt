@@ -1,5 +1,5 @@
 -- `single_or_consecutive` meets its contract: two bytes of head, and the message bytes behind them.
-use Rattle.std.proofs.Common.{◌∙◌, rules}
+use Rattle.std.proofs.Common.{◌∙◌}
 use Rattle.receiver.proofs.LawsPieces.{headed-two}
 use Rattle.receiver.proofs.cutter.single_or_consecutive.Goals as goal
 

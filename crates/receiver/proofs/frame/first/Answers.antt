@@ -1,5 +1,5 @@
 -- `first` meets its contract: each return is at its rung, and twelve bits are below 4096.
-use Rattle.std.proofs.Common.{refl, arith, rules, le-ltb, lt-ltb}
+use Rattle.std.proofs.Common.{refl, le-ltb, lt-ltb}
 use Rattle.identifiers.proofs.LawsChoice.{taken, passed}
 use Rattle.receiver.specs.Frames.{first_length, first_of}
 use Rattle.receiver.proofs.frame.first.Goals as goal
@@ -7,12 +7,6 @@ use Rattle.receiver.proofs.frame.first.Goals as goal
 pub returns-then-data-lt8 : goal.returns-then-data-lt8
 unfolding first_of
 returns-then-data-lt8 c = taken _ (lt-ltb _ _ c.if-data-lt8.true) refl
-
-pub overflow_cast-low : goal.overflow_cast-low
-overflow_cast-low c = omega (arith, c.shared_slice_known-2-1.given 2)
-
-pub overflow_add-length : goal.overflow_add-length
-overflow_add-length c = omega (arith, c.shared_slice_known-2-1.given 2)
 
 pub returns-then-length-lt7 : goal.returns-then-length-lt7
 unfolding first_of first_length

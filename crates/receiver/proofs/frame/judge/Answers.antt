@@ -1,5 +1,5 @@
 -- `judge` meets its contract: by what checks 2 to 8 answer.
-use Rattle.std.proofs.Common.{sym, ap, ◌∙◌, rules}
+use Rattle.std.proofs.Common.{sym, ap, ◌∙◌}
 use Rattle.receiver.specs.Frames.{judged_from, judged_of}
 use Rattle.receiver.proofs.frame.judge.Goals as goal
 

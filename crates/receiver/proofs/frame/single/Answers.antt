@@ -1,5 +1,5 @@
 -- `single` meets its contract: each return is at its rung.
-use Rattle.std.proofs.Common.{refl, rules, le-ltb, lt-ltb, eq-eqb, ne_eqb}
+use Rattle.std.proofs.Common.{refl, le-ltb, lt-ltb, eq-eqb, ne_eqb}
 use Rattle.identifiers.proofs.LawsChoice.{taken, passed}
 use Rattle.receiver.specs.Frames.{single_of}
 use Rattle.receiver.proofs.frame.single.Goals as goal

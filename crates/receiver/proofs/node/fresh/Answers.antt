@@ -1,5 +1,5 @@
 -- `fresh` meets its contract: by whether the number is a trailer's position.
-use Rattle.std.proofs.Common.{sym, ◌∙◌, rules}
+use Rattle.std.proofs.Common.{sym, ◌∙◌}
 use Rattle.receiver.proofs.LawsNodes.{made_none, made-at}
 use Rattle.receiver.proofs.LawsLent.{left_so, done-so}
 use Rattle.receiver.proofs.node.fresh.Goals as goal

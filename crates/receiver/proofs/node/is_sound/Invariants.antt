@@ -1,10 +1,8 @@
 -- What each turn of `is_sound` keeps, and what falls.
-use Rattle.std.proofs.Common.{◌≡◌, ◌-◌, ◌≤◌, true, sym, ◌∙◌, arith, rules}
-use borrow.Author.Tests.{not-true, not-false}
+use Rattle.std.proofs.Common.{◌≡◌, ◌-◌, ◌≤◌, true}
 use Rattle.identifiers.specs.Below.{all_below}
-use Rattle.identifiers.proofs.LawsBelow.{all_none, all_more}
 use Rattle.receiver.specs.Lent.{node_in}
-use Rattle.receiver.proofs.LawsLentRules.{keeps, own-under, own-over, unit_over, reception-breaks, all-kept}
+use Rattle.receiver.proofs.LawsLentRules.{keeps}
 use Rattle.receiver.proofs.node.is_sound.Given as goal
 
 abbrev pub invariant-loop-p : goal.invariant-loop-p

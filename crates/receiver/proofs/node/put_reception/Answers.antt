@@ -1,5 +1,5 @@
 -- `put_reception` meets its contract: three numbers stored in a row.
-use Rattle.std.proofs.Common.{◌∙◌, arith}
+use Rattle.std.proofs.Common.{◌∙◌}
 use Rattle.identifiers.proofs.LawsBytes.{puts-byte, ◌▸◌}
 use Rattle.receiver.proofs.LawsRow.{stored-in}
 use Rattle.receiver.proofs.node.put_reception.Goals as goal

@@ -1,5 +1,5 @@
 -- `reception_of` meets its contract: three numbers in a row.
-use Rattle.std.proofs.Common.{sym, rules}
+use Rattle.std.proofs.Common.{sym}
 use Rattle.receiver.proofs.LawsRow.{reception-in}
 use Rattle.receiver.proofs.node.reception_of.Goals as goal
 

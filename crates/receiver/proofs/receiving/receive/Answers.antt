@@ -1,9 +1,9 @@
 -- `receive` meets its contract: 1 for the buffer and the node, and all stays; then what the judged frame does to its vehicle's reception and to the buffer.
-use Rattle.std.proofs.Common.{◌≡◌, ℕ, true, sym, ap, ◌∙◌, arith, rules}
+use Rattle.std.proofs.Common.{◌≡◌, ℕ, sym, ap, ◌∙◌}
 use Rattle.readings.specs.declared.position.Position.{Position}
 use Rattle.receiver.specs.declared.frame.Judged.TheVariants.{First}
 use Rattle.receiver.specs.Steps.{judged_place}
-use Rattle.receiver.specs.Lent.{node_in, sound_lent}
+use Rattle.receiver.specs.Lent.{node_in}
 use Rattle.receiver.proofs.LawsFrames.{fair}
 use Rattle.receiver.proofs.LawsRules.{sound-at}
 use Rattle.receiver.proofs.LawsReceived.{own_is}

@@ -1,5 +1,5 @@
 -- `place` meets its contract: a position's place is below 6.
-use Rattle.std.proofs.Common.{ℕ, ◌<◌, sym, subst, rules}
+use Rattle.std.proofs.Common.{ℕ, ◌<◌, sym, subst}
 use Rattle.readings.proofs.LawsPositions.{place-below}
 use Rattle.receiver.proofs.reception.place.Goals as goal
 

@@ -1,5 +1,5 @@
 -- `region` meets its contract: a position's place is at most 5.
-use Rattle.std.proofs.Common.{arith, rules}
+use Rattle.std.proofs.Common.{arith}
 use Rattle.receiver.specs.Receptions.{region_at}
 use Rattle.receiver.proofs.reception.region.Goals as goal
 

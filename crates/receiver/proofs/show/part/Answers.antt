@@ -1,5 +1,5 @@
 -- `part` meets its contract: past the end it is empty, and near it as much as there is.
-use Rattle.std.proofs.Common.{◌≡◌, ◌+◌, ◌-◌, ◌≤◌, length, take, drop, sym, ap, ◌∙◌, arith, length-drop, drop_of_length-le, take_all, rules}
+use Rattle.std.proofs.Common.{◌≡◌, ◌+◌, ◌-◌, ◌≤◌, length, take, drop, sym, ap, ◌∙◌, arith, length-drop, drop_of_length-le, take_all}
 use lib.Seq.{take-nil}
 use Rattle.receiver.proofs.show.part.Goals as goal
 

@@ -1,5 +1,5 @@
 -- `shown` meets its contract: of the frame's data where a single frame is handed out, else of the buffer.
-use Rattle.std.proofs.Common.{◌≡◌, ℕ, List, take, drop, sym, ap, ◌∙◌, rules, eq-eqb, ne_eqb}
+use Rattle.std.proofs.Common.{◌≡◌, ℕ, List, take, drop, sym, ap, ◌∙◌, eq-eqb, ne_eqb}
 use Rattle.identifiers.proofs.LawsChoice.{pick_true, pick-false}
 use Rattle.receiver.specs.declared.outcome.OutcomeTold.{OutcomeTold}
 use Rattle.receiver.specs.Shown.{told_message}

@@ -1,5 +1,5 @@
 -- `open_anew` meets its contract: five bytes, at the start of the vehicle's region.
-use Rattle.std.proofs.Common.{arith, rules}
+use Rattle.std.proofs.Common.{arith}
 use Rattle.receiver.specs.declared.outcome.Outcome.TheVariants.{Opened}
 use Rattle.receiver.specs.Steps.{step_told, leaving, opened, written_by}
 use Rattle.receiver.proofs.LawsSteps.{leaving-told}

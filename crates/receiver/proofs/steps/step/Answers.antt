@@ -1,5 +1,5 @@
 -- `step` meets its contract: by the case of the judged frame.
-use Rattle.std.proofs.Common.{◌≡◌, ℕ, List, length, sym, refl, subst, rules}
+use Rattle.std.proofs.Common.{◌≡◌, ℕ, List, length, sym, refl, subst}
 use Rattle.receiver.specs.declared.reception.Reception.{Reception}
 use Rattle.receiver.specs.declared.frame.Judged.{Judged}
 use Rattle.receiver.specs.declared.outcome.Outcome.TheVariants.{Refused, Single, OverLong}

@@ -1,5 +1,5 @@
 -- `Outcome::told` meets its contract: the numbers of each case.
-use Rattle.std.proofs.Common.{sym, ap, ◌∙◌, arith, rules}
+use Rattle.std.proofs.Common.{sym, ap, ◌∙◌, arith}
 use Rattle.receiver.specs.Outcomes.{outcome_told}
 use Rattle.receiver.proofs.outcome.Outcome.told.Goals as goal
 

@@ -1,5 +1,5 @@
 -- `Reception::is_sound` meets its contract: closed in one form, or open with at most 255 bytes, more than the frames taken have.
-use Rattle.std.proofs.Common.{◌≡◌, ℕ, ◌+◌, ◌*◌, Bool, true, false, ◌&&◌, eqb, ltb, leb, sym, refl, ap, ◌∙◌, arith, rules, ltb-true, eq-eqb, ne_eqb, eqb-true, le-leb, leb-true}
+use Rattle.std.proofs.Common.{◌≡◌, ℕ, ◌+◌, ◌*◌, Bool, true, false, ◌&&◌, eqb, ltb, leb, sym, refl, ap, ◌∙◌, arith, ltb-true, eq-eqb, ne_eqb, eqb-true, le-leb, leb-true}
 use Rattle.identifiers.specs.Choice.{both}
 use Rattle.identifiers.proofs.LawsChoice.{pick_true, pick-false, and_is, so, both_false}
 use Rattle.receiver.specs.declared.reception.Reception.{Reception}
