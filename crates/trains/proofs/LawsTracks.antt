@@ -49,7 +49,7 @@ module _ (own : Position) (unit : ℕ) where
   short (resting e x) = rw e (omega arith)
   short (receiving e w) = let b = bounded w in rw e (omega arith)
 
-  module _ (at_least_lem : 1 ≤ place_of own) (h : Line) (f : Frame) (x : Held) (t : Tracks h x) where
+  module _ (at-least : 1 ≤ place_of own) (h : Line) (f : Frame) (x : Held) (t : Tracks h x) where
     -- what the frame does if it is judged so, and what that hands out
     abbrev step_on : Judged → Step
     step_on i = step_of (reception_at x.node (judged_place i)) i (length f.bytes) f.stamp
@@ -70,7 +70,7 @@ module _ (own : Position) (unit : ℕ) where
     ViewAfter q = View own unit q (h ▹ f) (reception_at after.node (place_of q)) after.buffer
 
     at_own : trailer_at x.node.own ≡ At own
-    at_own = ap trailer_at t.own-place ∙ trailer-back own at_least_lem
+    at_own = ap trailer_at t.own-place ∙ trailer-back own at-least
 
     answer-is : answer x f ≡ record { node = after.node; outcome = step.outcome }
     answer-is = received_is x.node x.buffer own unit t.sound t.room at_own t.own_unit f.identifier f.bytes f.stamp
@@ -143,13 +143,13 @@ module _ (own : Position) (unit : ℕ) where
   abbrev pub fresh_held : List ℕ → Held
   fresh_held buffer = record { node = fresh_node (place_of own) unit; buffer = buffer }
 
-  module _ (at_least_lem : 1 ≤ place_of own) (buffer : List ℕ) (room : length buffer ≡ 1536) where
+  module _ (at-least : 1 ≤ place_of own) (buffer : List ℕ) (room : length buffer ≡ 1536) where
     tracks-start : Tracks start (fresh_held buffer)
     tracks-start = record {
       own-place = fresh-own (place_of own) unit;
       own_unit = fresh-unit (place_of own) unit;
       six = fresh-six (place_of own) unit;
-      sound = fresh-sound (place_of own) unit at_least_lem (omega (arith, place-below own));
+      sound = fresh-sound (place_of own) unit at-least (omega (arith, place-below own));
       room = room;
       views = λ p. resting (fresh-closed (place_of own) unit (place_of p) (place-below p)) (λ L k t b w. rests-at-start w refl);
     }
@@ -157,9 +157,9 @@ module _ (own : Position) (unit : ℕ) where
     pub tracks : (h : Line) → Tracks h (offered (fresh_held buffer) h)
     unfolding offered
     tracks start = tracks-start
-    tracks (h ▹ f) = tracks_on at_least_lem h f (offered (fresh_held buffer) h) (tracks h)
+    tracks (h ▹ f) = tracks_on at-least h f (offered (fresh_held buffer) h) (tracks h)
 
     -- what is handed out at a frame is what stands there
     pub verdict : (h : Line) (f : Frame) → Verdict own unit h f (handed_at (fresh_held buffer) h f)
     unfolding handed_at offered
-    verdict h f = verdict-at at_least_lem h f (offered (fresh_held buffer) h) (tracks h)
+    verdict h f = verdict-at at-least h f (offered (fresh_held buffer) h) (tracks h)
