@@ -22,15 +22,15 @@ pub enum Log {
 
 // The only place that writes to standard output. Who calls it has shown that no word was given, and that the text is the summary of a
 // log.
-fn send(words: usize, text: &[u8])
+fn send(rt: HostRuntime, words: usize, text: &[u8])
     requires { (words ≡ 0) × ((log : List ℕ) × (text.now ≡ summary_text (imported log))) }
 {
-    input::write(b"import", text);
+    input::write(rt, b"import", text);
 }
 
 // Standard input, to its end, to a line that is refused or to one that is too long whatever follows. The line that has begun stands at
 // the start of the buffer, and what is read stands behind it. More turns than can be counted are told as a read that failed.
-fn read_log(buffer: &mut [u8]) -> Log
+fn read_log(rt: HostRuntime, buffer: &mut [u8]) -> Log
     requires { length buffer.old ≡ 65536 }
     ensures { (log : List ℕ) × (counts_read result (counts_of (imported log)) ≡ counts_of (imported log)) }
 {
@@ -38,7 +38,7 @@ fn read_log(buffer: &mut [u8]) -> Log
     let mut held = 0;
     let mut turns = input::MOST_CHUNKS;
     while 0 < turns {
-        let Input::Bytes(n) = input::read_chunk(&mut buffer[held..]) else {
+        let Input::Bytes(n) = input::read_chunk(rt, &mut buffer[held..]) else {
             return Log::Failed;
         };
         if n == 0 {
@@ -60,24 +60,24 @@ fn read_log(buffer: &mut [u8]) -> Log
     Log::Failed
 }
 
-fn import_log(words: usize)
+fn import_log(rt: HostRuntime, words: usize)
     requires { words ≡ 0 }
 {
-    let mut buffer = io::large_buffer();
-    let Log::Read(counts) = read_log(&mut buffer) else {
-        input::unread(b"import");
+    let mut buffer = [0u8; input::CHUNK];
+    let Log::Read(counts) = read_log(rt, &mut buffer) else {
+        input::unread(rt, b"import");
         return;
     };
     let mut page = [0u8; 80];
     let end = put_summary(&mut page, counts);
-    send(words, &page[..end]);
+    send(rt, words, &page[..end]);
 }
 
-fn main() {
-    let words = input::words();
+fn main(rt: HostRuntime) {
+    let words = input::words(rt);
     if words != 0 {
-        input::usage(b"import < LOG");
+        input::usage(rt, b"import < LOG");
         return;
     }
-    import_log(words);
+    import_log(rt, words);
 }

@@ -10,58 +10,58 @@ use mending::Mended;
 
 // The only place that writes to standard output, and whether that was done. Who calls it has shown that no word was given, and that
 // the bytes are those of the mended sheet.
-fn send(words: usize, sheet: &[u8], bytes: &[u8]) -> bool
+fn send(rt: HostRuntime, words: usize, sheet: &[u8], bytes: &[u8]) -> bool
     requires { (words ≡ 0) × (bytes.now ≡ sheet_text sheet.now) }
     ensures { empty_written (length bytes.now) result ≡ true }
 {
-    input::write(b"mend", bytes)
+    input::write(rt, b"mend", bytes)
 }
 
 // Who calls it has shown that the lines are those of the dropped stretches.
-fn list(sheet: &[u8], lines: &[u8])
+fn list(rt: HostRuntime, sheet: &[u8], lines: &[u8])
     requires { lines.now ≡ list_text sheet.now }
 {
-    input::say_lines(lines);
+    input::say_lines(rt, lines);
 }
 
 // The count sheet's own line.
-fn refuse(words: usize, sheet: &[u8])
+fn refuse(rt: HostRuntime, words: usize, sheet: &[u8])
     requires { (words ≡ 0) × (65535 < length sheet.now) }
 {
     let mut page = [0u8; sheet::PAGE];
     let end = sheet::print(sheet, &mut page);
-    if send(words, sheet, &page[..end]) {
-        list(sheet, &page[..end]);
+    if send(rt, words, sheet, &page[..end]) {
+        list(rt, sheet, &page[..end]);
     }
 }
 
 // The list follows a sheet that was written.
-fn mend_sheet(words: usize, sheet: &[u8])
+fn mend_sheet(rt: HostRuntime, words: usize, sheet: &[u8])
     requires { words ≡ 0 }
 {
     let mut kept = [0u8; sheet::MOST_INPUT];
     let mut page = [0u8; sheet::PAGE];
     match mending::mend(sheet, &mut kept, &mut page) {
         Mended::Written(end, listed) => {
-            if send(words, sheet, &kept[..end as usize]) {
-                list(sheet, &page[..listed as usize]);
+            if send(rt, words, sheet, &kept[..end as usize]) {
+                list(rt, sheet, &page[..listed as usize]);
             }
         }
-        Mended::Refused(_) => refuse(words, sheet),
+        Mended::Refused(_) => refuse(rt, words, sheet),
     }
 }
 
 // The buffer takes one byte more than a sheet may have, so that a longer input is seen to be too long.
-fn main() {
-    let words = input::words();
+fn main(rt: HostRuntime) {
+    let words = input::words(rt);
     if words != 0 {
-        input::usage(b"mend < SHEET > MENDED");
+        input::usage(rt, b"mend < SHEET > MENDED");
         return;
     }
-    let mut buffer = io::large_buffer();
-    let Input::Bytes(n) = input::read_whole(&mut buffer) else {
-        input::unread(b"mend");
+    let mut buffer = [0u8; input::CHUNK];
+    let Input::Bytes(n) = input::read_whole(rt, &mut buffer) else {
+        input::unread(rt, b"mend");
         return;
     };
-    mend_sheet(words, &buffer[..n]);
+    mend_sheet(rt, words, &buffer[..n]);
 }
