@@ -16,41 +16,51 @@ const FIRST: [u8; 8] = *b"\x05\x10\x0B\x22\xF1\x90\xF1\x87";
 const SECOND: [u8; 8] = *b"\x05\x21\xF1\x8C\xF1\x95\xF1\x97";
 
 // Nothing handed out, with flow control due, is a reception opened.
-fn accepted(told: OutcomeTold) {
+fn accepted(rt: HostRuntime, told: OutcomeTold) {
     if told.functional {
-        say(b"functional ");
+        say(rt, b"functional ");
     }
     if (told.handed_out == 0) & (told.control != 0) {
-        say(b"opened");
+        say(rt, b"opened");
     } else {
-        say(part(b"taken|single|train|", b'|', told.handed_out as usize));
+        say(
+            rt,
+            part(b"taken|single|train|", b'|', told.handed_out as usize),
+        );
     }
-    say_number(b" from ", told.from as usize);
+    say_number(rt, b" from ", told.from as usize);
 }
 
 // The outcome in words, and the message that is shown.
-fn tell<'a>(data: &'a [u8], buffer: &'a [u8], told: OutcomeTold) {
+fn tell<'a>(rt: HostRuntime, data: &'a [u8], buffer: &'a [u8], told: OutcomeTold) {
     if told.refusal == 0 {
-        accepted(told);
+        accepted(rt, told);
     } else {
-        say_number(b"refused ", told.refusal as usize);
+        say_number(rt, b"refused ", told.refusal as usize);
     }
     let words = b"|, continue due|, overflow due|";
-    say(part(words, b'|', told.control as usize));
+    say(rt, part(words, b'|', told.control as usize));
     let text = shown(data, buffer, told);
     if text.len() != 0 {
-        say(b", message");
-        say_bytes(text);
+        say(rt, b", message");
+        say_bytes(rt, text);
     }
-    say(b"\n");
+    say(rt, b"\n");
 }
 
-fn offer(node: &mut [u32; NODE], buffer: &mut [u8], identifier: u32, data: &[u8], stamp: u32)
+fn offer(
+    rt: HostRuntime,
+    node: &mut [u32; NODE],
+    buffer: &mut [u8],
+    identifier: u32,
+    data: &[u8],
+    stamp: u32,
+)
     ensures { (node.new ≡ numbers_of (lent_received (node_in node.old) buffer.old identifier «data».now stamp).node)
         × (buffer.new ≡ lent_buffer (node_in node.old) buffer.old identifier «data».now stamp) }
 {
     let told = receive(node, buffer, identifier, data, stamp);
-    tell(data, buffer, told);
+    tell(rt, data, buffer, told);
 }
 
 // A trailer that starts, with unit 5.
@@ -63,7 +73,7 @@ fn started() -> [u32; NODE]
 }
 
 // A name, then frames one after the other to trailer 1 with unit 5: data (F: FIRST, S: SECOND), an identifier, a stamp, and a line.
-pub fn sequence(case: &[u8]) {
+pub fn sequence(rt: HostRuntime, case: &[u8]) {
     let count = marks(case, b'/');
     let mut buffer = [0u8; BUFFER];
     let mut node = started();
@@ -71,14 +81,15 @@ pub fn sequence(case: &[u8]) {
     while k < count {
         k += 1;
         let frame = part(case, b'/', k);
-        say(part(case, b'/', 0));
-        say_case(part(frame, b';', 3), frame);
+        say(rt, part(case, b'/', 0));
+        say_case(rt, part(frame, b';', 3), frame);
         let identifier = value(frame, 1, 16);
         let stamp = value(frame, 2, 16);
         match letter(frame) {
-            b'F' => offer(&mut node, &mut buffer, identifier, &FIRST, stamp),
-            b'S' => offer(&mut node, &mut buffer, identifier, &SECOND, stamp),
+            b'F' => offer(rt, &mut node, &mut buffer, identifier, &FIRST, stamp),
+            b'S' => offer(rt, &mut node, &mut buffer, identifier, &SECOND, stamp),
             _ => offer(
+                rt,
                 &mut node,
                 &mut buffer,
                 identifier,
@@ -90,53 +101,60 @@ pub fn sequence(case: &[u8]) {
 }
 
 // A name, data and an identifier: the frame is offered alone, to trailer 1 with unit 5.
-pub fn offered(case: &[u8]) {
+pub fn offered(rt: HostRuntime, case: &[u8]) {
     let mut buffer = [0u8; BUFFER];
     let mut node = started();
     let data = part(case, b';', 1);
-    offer(&mut node, &mut buffer, value(case, 2, 16), data, 0);
+    offer(rt, &mut node, &mut buffer, value(case, 2, 16), data, 0);
 }
 
 // The frame 3E 00 to unit 5.
-fn presence(found: [u32; NODE], identifier: u32) {
+fn presence(rt: HostRuntime, found: [u32; NODE], identifier: u32) {
     let mut buffer = [0u8; BUFFER];
     let mut node = found;
-    offer(&mut node, &mut buffer, identifier, &PRESENCE, 0);
+    offer(rt, &mut node, &mut buffer, identifier, &PRESENCE, 0);
 }
 
 // A channel, its identifier, and its trailer: the identifier is read apart, then a frame under it is offered to the trailer.
-pub fn channel(line: &[u8], case: &[u8]) {
-    crate::document_003::read(value(case, 1, 16));
-    say_case(line, case);
-    say(b"offered to its trailer: ");
+pub fn channel(rt: HostRuntime, line: &[u8], case: &[u8]) {
+    crate::document_003::read(rt, value(case, 1, 16));
+    say_case(rt, line, case);
+    say(rt, b"offered to its trailer: ");
     let mut node = [0; NODE];
     fresh(&mut node, byte(case, 2, 10), 5);
-    presence(node, value(case, 1, 16));
+    presence(rt, node, value(case, 1, 16));
 }
 
-pub fn node(case: &[u8]) {
+pub fn node(rt: HostRuntime, case: &[u8]) {
     let mut node = [0; NODE];
     let answer = fresh(&mut node, byte(case, 0, 10), 5);
-    if refused(answer.number()) {
-        say(b"offered a frame: ");
+    if refused(rt, answer.number()) {
+        say(rt, b"offered a frame: ");
     }
-    presence(node, FUNCTIONAL);
+    presence(rt, node, FUNCTIONAL);
 }
 
 // The length, the count and the stamp of the last reception.
-pub fn under_way(case: &[u8]) {
+pub fn under_way(rt: HostRuntime, case: &[u8]) {
     let mut node = started();
     node[17] = value(case, 0, 10);
     node[18] = value(case, 1, 10);
     node[19] = value(case, 2, 10);
-    presence(node, FUNCTIONAL);
+    presence(rt, node, FUNCTIONAL);
 }
 
-pub fn given(case: &[u8]) {
+pub fn given(rt: HostRuntime, case: &[u8]) {
     let mut buffer = [0u8; 1537];
     let mut node = started();
     let length = (value(case, 0, 10) % 1538) as usize;
-    offer(&mut node, &mut buffer[..length], FUNCTIONAL, &PRESENCE, 0);
+    offer(
+        rt,
+        &mut node,
+        &mut buffer[..length],
+        FUNCTIONAL,
+        &PRESENCE,
+        0,
+    );
 }
 
 // The lowest byte of a number.
@@ -147,20 +165,20 @@ fn low(number: u32) -> u8
 }
 
 // The position of a node whose reception of the tractor is open, and the address that it takes.
-pub fn hears(case: &[u8]) {
+pub fn hears(rt: HostRuntime, case: &[u8]) {
     let mut node = started();
     node[0] = value(case, 0, 10);
     node[2] = 11;
     let answer = take_address(&mut node, byte(case, 1, 16));
-    if !refused(answer.number()) {
-        say_number(b"own position ", low(node[0]) as usize);
-        say_byte(b", reception 0 of length ", low(node[2]));
-        say(b"\n");
+    if !refused(rt, answer.number()) {
+        say_number(rt, b"own position ", low(node[0]) as usize);
+        say_byte(rt, b", reception 0 of length ", low(node[2]));
+        say(rt, b"\n");
     }
 }
 
 // All frames of a message from the tractor to trailer 1, each 150 ms after the one before, the second byte of each said; the stamps run round.
-fn read_back(message: &[u8]) {
+fn read_back(rt: HostRuntime, message: &[u8]) {
     let count = frame_count(message.len());
     let mut buffer = [0u8; BUFFER];
     let mut node = started();
@@ -170,7 +188,7 @@ fn read_back(message: &[u8]) {
     while k < count {
         let told = cut(message, k, 0, 1, 5).told();
         let data = told.data;
-        say_byte(b" ", data[1]);
+        say_byte(rt, b" ", data[1]);
         let frame = front(&data, told.length as usize);
         let outcome = receive(&mut node, &mut buffer, told.identifier, frame, stamp);
         unchanged = check::same(shown(frame, &buffer, outcome), message);
@@ -178,47 +196,50 @@ fn read_back(message: &[u8]) {
         k += 1;
     }
     if unchanged {
-        say(b" read back unchanged\n");
+        say(rt, b" read back unchanged\n");
     } else {
-        say(b" not read\n");
+        say(rt, b" not read\n");
     }
 }
 
 // The length of a message of bytes 0, 1, .. 250 and 0, 1, .. again.
-pub fn message(case: &[u8]) {
+pub fn message(rt: HostRuntime, case: &[u8]) {
     let mut message = [0u8; 256];
     let mut i = 0;
     while i < 256 {
         message[i] = (i % 251) as u8;
         i += 1;
     }
-    read_back(front(&message, value(case, 0, 10) as usize));
+    read_back(rt, front(&message, value(case, 0, 10) as usize));
 }
 
-fn frame(told: FrameCutTold) {
-    if !refused(told.refusal) {
+fn frame(rt: HostRuntime, told: FrameCutTold) {
+    if !refused(rt, told.refusal) {
         let data = told.data;
-        say_long(told.identifier);
-        say_bytes(front(&data, told.length as usize));
-        say(b"\n");
+        say_long(rt, told.identifier);
+        say_bytes(rt, front(&data, told.length as usize));
+        say(rt, b"\n");
     }
 }
 
 // The number of a frame, the length of its message of bytes AA, and the positions from and to.
-pub fn piece(case: &[u8]) {
+pub fn piece(rt: HostRuntime, case: &[u8]) {
     let message = [0xAAu8; 256];
     let text = front(&message, value(case, 1, 10) as usize);
     let from = byte(case, 2, 10);
     let to = byte(case, 3, 10);
-    frame(cut(text, value(case, 0, 10) as usize, from, to, 5).told());
+    frame(
+        rt,
+        cut(text, value(case, 0, 10) as usize, from, to, 5).told(),
+    );
 }
 
 // Continue or overflow, and the positions from and to.
-pub fn due(case: &[u8]) {
+pub fn due(rt: HostRuntime, case: &[u8]) {
     let control = match letter(case) {
         b'c' => Control::Continue,
         _ => Control::Overflow,
     };
     let from = byte(case, 1, 10);
-    frame(flow_control(control, from, byte(case, 2, 10), 5).told());
+    frame(rt, flow_control(control, from, byte(case, 2, 10), 5).told());
 }

@@ -8,33 +8,33 @@ mod tables;
 use published_lines::*;
 
 // The first letter of the row's word says what is asked.
-fn run(row: &[u8], case: &[u8]) {
+fn run(rt: HostRuntime, row: &[u8], case: &[u8]) {
     let line = part(row, b';', 1);
-    say_case(line, case);
+    say_case(rt, line, case);
     match letter(row) {
-        b'a' => document_003::address(case),
-        b'b' => document_003::bits(case),
-        b'c' => document_000::channel(line, case),
-        b'd' => document_000::due(case),
-        b'f' => document_003::format(case),
-        b'g' => document_000::given(case),
-        b'h' => document_000::hears(case),
-        b'i' => document_003::read(value(case, 1, 16)),
-        b'k' => document_003::kind(case),
-        b'm' => document_000::message(case),
-        b'n' => document_000::node(case),
-        b'o' => document_000::offered(case),
-        b'p' => document_000::piece(case),
-        b'r' => document_003::route(case),
-        b's' => document_000::sequence(case),
-        b't' => document_003::taken(case),
-        b'u' => document_000::under_way(case),
-        _ => document_003::written(case),
+        b'a' => document_003::address(rt, case),
+        b'b' => document_003::bits(rt, case),
+        b'c' => document_000::channel(rt, line, case),
+        b'd' => document_000::due(rt, case),
+        b'f' => document_003::format(rt, case),
+        b'g' => document_000::given(rt, case),
+        b'h' => document_000::hears(rt, case),
+        b'i' => document_003::read(rt, value(case, 1, 16)),
+        b'k' => document_003::kind(rt, case),
+        b'm' => document_000::message(rt, case),
+        b'n' => document_000::node(rt, case),
+        b'o' => document_000::offered(rt, case),
+        b'p' => document_000::piece(rt, case),
+        b'r' => document_003::route(rt, case),
+        b's' => document_000::sequence(rt, case),
+        b't' => document_003::taken(rt, case),
+        b'u' => document_000::under_way(rt, case),
+        _ => document_003::written(rt, case),
     }
 }
 
 // Each row begins with a newline, and each of its parts ends with a mark.
-fn walk(table: &[u8]) {
+fn walk(rt: HostRuntime, table: &[u8]) {
     let count = marks(table, b'|');
     let mut row = 0;
     let mut k = 0;
@@ -42,16 +42,16 @@ fn walk(table: &[u8]) {
         let text = part(table, b'|', k);
         match letter(text) {
             b'\n' => row = k,
-            _ => run(part(part(table, b'|', row), b'\n', 1), text),
+            _ => run(rt, part(part(table, b'|', row), b'\n', 1), text),
         }
         k += 1;
     }
 }
 
-pub fn print_frames() {
-    tables::document_003();
-    tables::routes();
-    tables::document_000();
-    tables::trains();
-    tables::limits();
+pub fn print_frames(rt: HostRuntime) {
+    tables::document_003(rt);
+    tables::routes(rt);
+    tables::document_000(rt);
+    tables::trains(rt);
+    tables::limits(rt);
 }

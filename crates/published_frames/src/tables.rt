@@ -3,8 +3,9 @@
 use crate::walk;
 
 // The tables 1, 3, 7, 8, 4, with the indicators of document 02, and 5, the address that a trailer takes, and the data ranges of the eight kinds.
-pub fn document_003() {
+pub fn document_003(rt: HostRuntime) {
     walk(
+        rt,
         b"
 format;003 table 1: PF #: |0|239|240|255|
 address;003 table 3: #: |EB|C9|C1|B9|B1|A9|FF|C8|
@@ -33,8 +34,9 @@ kind;no kind 8, raw #: |0;8;0;1|
 }
 
 // 6.3, and document 02 of frames with R set: the side that a frame comes from, its identifier, the own position, and whether there is a successor.
-pub fn routes() {
+pub fn routes(rt: HostRuntime) {
     walk(
+        rt,
         b"
 route;003 6.3, from the #: # at position ##: |\
 predecessor;18CEC1C9;2; with a successor|\
@@ -69,8 +71,9 @@ route;# bytes under # at position ##: |nine;1FFFFFFF;2; with a successor;1234567
 }
 
 // Tables 29 to 31. The commercial vehicle, xx in them, has the address EB; document 01 has functional frames go to FF alone.
-pub fn document_000() {
+pub fn document_000(rt: HostRuntime) {
     walk(
+        rt,
         b"
 channel;000 table 29, DCC#-2P |11;1CCEC9EB;1|12;1CCEC1EB;2|13;1CCEB9EB;3|14;1CCEB1EB;4|15;1CCEA9EB;5|21;1CCEEBC9;1|22;1CCEEBC1;2|\
 23;1CCEEBB9;3|24;1CCEEBB1;4|25;1CCEEBA9;5|
@@ -104,8 +107,9 @@ RBD;\x05\xFF;18CEC9EB|
 
 // 10.4.2.2.4 and N_Cr: messages cut and read back; the second and the third frame of a message; and frames between two, of the same vehicle,
 // which end the reception or are passed over, and of others.
-pub fn trains() {
+pub fn trains(rt: HostRuntime) {
     walk(
+        rt,
         b"
 message;000 10.4.2.2.4, a message of # bytes:|0|1|6|7|11|12|101|255|256|
 sequence;|gap 0/F;18CEC9EB;7;, first frame: /\x05\x21\xF1\x8C\xF1\x95\xF1\x97;18CEC9EB;7;, data$: |\
@@ -131,8 +135,9 @@ another vehicle's consecutive/F;18CEC9EB;0;, before it: /\x05\x21\xF1\x8C\xF1\x9
 }
 
 // The identifier's fields; checks 2 to 9 of a frame, each where the one before just passes; nodes; cuts and flow control.
-pub fn limits() {
+pub fn limits(rt: HostRuntime) {
     walk(
+        rt,
         b"
 written;identifier #: |written;7;0;1;255;255;FF|written;8;0;1;255;255;FF|written;7;0;2;255;255;FF|written;0;0;0;255;255;FF|\
 written;7;1;1;255;255;FF|written;7;2;1;255;255;FF|written;6;1;0;254;93;EB|

@@ -32,29 +32,34 @@ pub fn faulty() -> TrailerRecord
 }
 
 // An answer of up to 24 bytes is said, a longer one counted.
-fn answered(told: ReplyTold, response: &[u8]) {
+fn answered(rt: HostRuntime, told: ReplyTold, response: &[u8]) {
     if told.refusal != 0 {
-        say_number(b" refused ", told.refusal as usize);
+        say_number(rt, b" refused ", told.refusal as usize);
     } else if told.silent {
-        say(b" silent");
+        say(rt, b" silent");
     } else if 24 < told.length {
-        say_number(b" ", told.length);
-        say(b" bytes that begin");
-        say_bytes(front(response, 4));
+        say_number(rt, b" ", told.length);
+        say(rt, b" bytes that begin");
+        say_bytes(rt, front(response, 4));
     } else {
-        say_bytes(front(response, told.length));
+        say_bytes(rt, front(response, told.length));
     }
-    say(b"\n");
+    say(rt, b"\n");
 }
 
 // The record after a request, whose answer is said.
-pub fn asked(record: TrailerRecord, request: &[u8], functional: bool) -> TrailerRecord
+pub fn asked(
+    rt: HostRuntime,
+    record: TrailerRecord,
+    request: &[u8],
+    functional: bool,
+) -> TrailerRecord
     ensures { result ≡ (served_of «record» request.now functional (replicate 255 0)).after }
 {
     let mut response = [0u8; 255];
     let served = serve(record, request, functional, &mut response);
     let reply = served.reply;
-    answered(reply.told(), &response);
+    answered(rt, reply.told(), &response);
     let mut after = record;
     let statuses = served.statuses;
     after.statuses = statuses;
@@ -62,16 +67,16 @@ pub fn asked(record: TrailerRecord, request: &[u8], functional: bool) -> Trailer
 }
 
 // A request: functional, physical, or one that clears, and behind that the report of all codes.
-pub fn ask(record: TrailerRecord, letter: u8, case: &[u8]) {
-    let after = asked(record, part(case, b';', 0), letter == b'f');
+pub fn ask(rt: HostRuntime, record: TrailerRecord, letter: u8, case: &[u8]) {
+    let after = asked(rt, record, part(case, b';', 0), letter == b'f');
     if letter == b'c' {
-        say(b"and then, 19 0A:");
-        asked(after, b"\x19\x0A", false);
+        say(rt, b"and then, 19 0A:");
+        asked(rt, after, b"\x19\x0A", false);
     }
 }
 
 // The length of a request of service 22, with identifiers that are not held, and that of the response buffer.
-pub fn lengths(record: TrailerRecord, case: &[u8]) {
+pub fn lengths(rt: HostRuntime, record: TrailerRecord, case: &[u8]) {
     let mut bytes = [0u8; 256];
     bytes[0] = 0x22;
     let request = front(&bytes, value(case, 0, 10) as usize);
@@ -80,14 +85,14 @@ pub fn lengths(record: TrailerRecord, case: &[u8]) {
     let served = serve(record, request, false, &mut response[..room]);
     let reply = served.reply;
     let told = reply.told();
-    if !refused(told.refusal) {
-        say_number(b"answered in ", told.length);
-        say(b"\n");
+    if !refused(rt, told.refusal) {
+        say_number(rt, b"answered in ", told.length);
+        say(rt, b"\n");
     }
 }
 
 // A name; then the first letters of fields (n: how many codes there are), each with the number that the field has in place of its own.
-pub fn kept(record: TrailerRecord, case: &[u8]) {
+pub fn kept(rt: HostRuntime, record: TrailerRecord, case: &[u8]) {
     let fields = marks(case, b';') / 2;
     let mut changed = record;
     let mut k = 0;
@@ -105,13 +110,13 @@ pub fn kept(record: TrailerRecord, case: &[u8]) {
         k += 1;
     }
     let told = check(changed).told();
-    if !refused(told.refusal) {
-        say(b"kept\n");
+    if !refused(rt, told.refusal) {
+        say(rt, b"kept\n");
     }
 }
 
 // Codes 0, 1, .. 62, each with the status 08.
-fn codes() {
+fn codes(rt: HostRuntime) {
     let mut record = faulty();
     record.count = 63;
     record.statuses = [0x08; 63];
@@ -121,6 +126,7 @@ fn codes() {
         i += 1;
     }
     walk(
+        rt,
         record,
         b"
 kept;record, #: |63 codes|64 codes;n;40|code FFFFFE;c;FFFFFE|code FFFFFF;c;FFFFFF|a code twice;c;3D|a free place;c;3D;n;3E|\
@@ -131,7 +137,7 @@ ask;63 codes,$:|\x19\x01\x08|\x19\x02\x08|\x19\x0A|
 }
 
 // Identifiers 1, 2, .. 16 of one byte each; then seven data of 32 bytes and one of 14 fill 255 bytes, and one of 15 is one too many.
-fn identifiers() {
+fn identifiers(rt: HostRuntime) {
     let mut record = faulty();
     record.held = 16;
     record.lengths = [1; 16];
@@ -141,6 +147,7 @@ fn identifiers() {
         i += 1;
     }
     walk(
+        rt,
         record,
         b"
 kept;record, #: |16 identifiers|17 identifiers;h;11|an identifier twice;i;0F|a datum of 0 bytes;i;0F;h;0F;l;00|\
@@ -151,6 +158,7 @@ a datum of 32 bytes;i;0F;h;0F;l;20|a datum of 33 bytes;i;0F;h;0F;l;21|
     record.lengths[1] = 14;
     record.lengths[2] = 15;
     walk(
+        rt,
         record,
         b"
 ask;255 bytes,$:|\x22\0\x01\0\x01\0\x01\0\x01\0\x01\0\x01\0\x01\0\x02|
@@ -160,25 +168,25 @@ ask;256 bytes,$:|\x22\0\x01\0\x01\0\x01\0\x01\0\x01\0\x01\0\x01\0\x03|
 }
 
 // A status, and the code that it is set of.
-pub fn set(record: TrailerRecord, case: &[u8]) {
+pub fn set(rt: HostRuntime, record: TrailerRecord, case: &[u8]) {
     let done = set_status(record, value(case, 1, 16), byte(case, 0, 16));
     let answer = done.answer;
     let told = answer.told();
-    if !refused(told.refusal) {
+    if !refused(rt, told.refusal) {
         let mut after = record;
         let statuses = done.statuses;
         after.statuses = statuses;
-        say(b"done, 19 0A:");
-        asked(after, b"\x19\x0A", false);
+        say(rt, b"done, 19 0A:");
+        asked(rt, after, b"\x19\x0A", false);
     }
 }
 
-pub fn print() {
-    codes();
-    identifiers();
+pub fn print(rt: HostRuntime) {
+    codes(rt);
+    identifiers(rt);
     let mut record = faulty();
     let rows = b"\nset;set # of code #: |7F;00123456|80;00123456|80;00123455|00;00FFFFFF|";
-    walk(record, rows);
+    walk(rt, record, rows);
     record.availability = 0x7E;
-    walk(record, b"\nset;set # of code #: |80;00123456|");
+    walk(rt, record, b"\nset;set # of code #: |80;00123456|");
 }

@@ -8,54 +8,55 @@ use sheet::*;
 const READING: [u8; 17] = *b"\x01\x00\x01\x01\x02\x00\x01\x08\x03\x00\x06\x59\x01\x7F\x03\x00\x02";
 
 // The whole text of a sheet; of a long one its length and its last line.
-pub fn shown(input: &[u8]) {
+pub fn shown(rt: HostRuntime, input: &[u8]) {
     let mut page = [0u8; PAGE];
     let end = sheet::print(input, &mut page);
     let text = front(&page, end);
     if text.len() < 100 {
-        say(text);
+        say(rt, text);
         return;
     }
-    say_number(b"", text.len());
-    say(b" bytes, ending in ");
+    say_number(rt, b"", text.len());
+    say(rt, b" bytes, ending in ");
     let last = text.len() - 15;
-    say(&text[last..]);
+    say(rt, &text[last..]);
 }
 
 // A name, how many bytes of the reading there are, and the byte that stands at a place of it.
-pub fn reading(case: &[u8]) {
+pub fn reading(rt: HostRuntime, case: &[u8]) {
     let mut input = READING;
     let place = (value(case, 2, 10) % 17) as usize;
     input[place] = byte(case, 3, 16);
-    shown(front(&input, value(case, 1, 10) as usize));
+    shown(rt, front(&input, value(case, 1, 10) as usize));
 }
 
 // A mask, and the availability mask.
-pub fn basis(case: &[u8]) {
+pub fn basis(rt: HostRuntime, case: &[u8]) {
     match basis_of(byte(case, 0, 16), byte(case, 1, 16)) {
-        Basis::None => say(b"none\n"),
-        Basis::Full => say(b"full\n"),
-        Basis::Part => say(b"part\n"),
+        Basis::None => say(rt, b"none\n"),
+        Basis::Full => say(rt, b"full\n"),
+        Basis::Part => say(rt, b"part\n"),
     }
 }
 
 // 65,535 bytes are 3,855 readings; then one byte more.
-fn sizes() {
+fn sizes(rt: HostRuntime) {
     let mut input = [0u8; 65536];
     let mut i = 0;
     while i < 65535 {
         input[i] = READING[i % 17];
         i += 1;
     }
-    say(b"sheet, 3,855 readings: ");
-    shown(&input[..65535]);
-    say(b"sheet, one byte more: ");
-    shown(&input);
+    say(rt, b"sheet, 3,855 readings: ");
+    shown(rt, &input[..65535]);
+    say(rt, b"sheet, one byte more: ");
+    shown(rt, &input);
 }
 
 // Fields and their order: where two refusals apply, the earliest field, then the lowest number.
-pub fn print() {
+pub fn print(rt: HostRuntime) {
     walk(
+        rt,
         faulty(),
         b"
 reading;sheet, #: |position 0;17;3;00|position 1;17;3;01|position 5;17;3;05|position 6;17;3;06|mask 80;17;7;80|\
@@ -69,7 +70,7 @@ reading;sheet, #: |no byte;0;0;01|1 byte;1;0;01|3 bytes;3;0;01|4 bytes;4;0;01|6 
 16 bytes;16;0;01|17 bytes;17;0;01|
 ",
     );
-    sizes();
+    sizes(rt);
     let rows = b"\nbasis;basis, mask # of #: |80;7F|08;7F|8C;4B|00;7F|";
-    walk(faulty(), rows);
+    walk(rt, faulty(), rows);
 }

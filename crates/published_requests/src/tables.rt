@@ -4,23 +4,23 @@ use crate::walk;
 use published_lines::*;
 
 // Table 11: of all 256 masks those that keep the rule.
-pub fn masks() {
-    say(b"000 table 11, masks that keep the rule:");
+pub fn masks(rt: HostRuntime) {
+    say(rt, b"000 table 11, masks that keep the rule:");
     let mut count: usize = 0;
     let mut mask: usize = 0;
     while mask < 256 {
         if server::sound_mask(mask as u8) {
-            say_byte(b" ", mask as u8);
+            say_byte(rt, b" ", mask as u8);
             count += 1;
         }
         mask += 1;
     }
-    say_number(b"\n000 table 11, of 256 masks ", count);
-    say(b" keep the rule\n");
+    say_number(rt, b"\n000 table 11, of 256 masks ", count);
+    say(rt, b" keep the rule\n");
 }
 
 // Table B.3's identifiers and the ends of its ranges, asked of a record that holds sixteen of them; the bytes of each are its place.
-fn identifiers() {
+fn identifiers(rt: HostRuntime) {
     let mut record = faulty();
     record.held = 16;
     let held = b"F000;F002;F187;F188;F189;F18A;F18B;F18C;F18D;F190;F191;F192;F193;F194;F195;F197";
@@ -33,6 +33,7 @@ fn identifiers() {
         i += 1;
     }
     walk(
+        rt,
         record,
         b"
 ask;000 table B.3,$:|\x22\xF0\x00|\x22\xF0\x01|\x22\xF0\x02|\x22\xF0\x0F|\x22\xF1\x87|\x22\xF1\x88|\x22\xF1\x89|\x22\xF1\x8A|\x22\xF1\x8B|\
@@ -43,22 +44,24 @@ ask;000 table B.3,$:|\x22\xF0\x00|\x22\xF0\x01|\x22\xF0\x02|\x22\xF0\x0F|\x22\xF
 }
 
 // Table 10: the bits of a mask one by one, all of them, and none. Table B.4: the codes that the server gives, 11, 12 and 31.
-pub fn services() {
+pub fn services(rt: HostRuntime) {
     walk(
+        rt,
         faulty(),
         b"
 ask;000 table 10,$:|\x19\x01\x01|\x19\x01\x02|\x19\x01\x04|\x19\x01\x08|\x19\x01\x10|\x19\x01\x20|\x19\x01\x40|\x19\x01\x80|\x19\x01\xFF|\
 \x19\x01\x00|\x19\x02\x08|\x19\x02\x80|\x19\x0A|
 ",
     );
-    identifiers();
+    identifiers(rt);
     let rows = b"\nask;000 table B.4,$:|\x10\x01|\x19\x03\x08|\x14\x12\x34\x57|\x22\xF1\x9E|";
-    walk(faulty(), rows);
+    walk(rt, faulty(), rows);
 }
 
 // The neighbours of the four services, unknown sub-functions, lengths, silence, and what clearing changes.
-pub fn requests() {
+pub fn requests(rt: HostRuntime) {
     walk(
+        rt,
         faulty(),
         b"
 ask;request,$:|\x13\x01\x08|\x15\x01\x08|\x18\x01\x08|\x1A\x01\x08|\x21\x01\x08|\x23\x01\x08|\x3D\x01\x08|\x3F\x01\x08|
@@ -76,10 +79,10 @@ clear;a code not held,$:|\x14\x12\x34\x55|
     record.availability = 0x4B;
     record.statuses[1] = 0x40;
     let rows = b"\nclear;all codes under mask 4B,$:|\x14\xFF\xFF\xFF|";
-    walk(record, rows);
+    walk(rt, record, rows);
     record.count = 0;
-    walk(record, b"\nclear;no code held,$:|\x14\xFF\xFF\xFF|");
+    walk(rt, record, b"\nclear;no code held,$:|\x14\xFF\xFF\xFF|");
     let rows =
         b"\nlengths;request of # bytes, response buffer of #: |0;255|1;255|255;255|256;255|3;254|3;256|";
-    walk(faulty(), rows);
+    walk(rt, faulty(), rows);
 }
