@@ -1,21 +1,14 @@
 -- `Kind::of_number` meets its contract: each arm has the table's row of its number, and the last arm is at 7.
 use mathlib.Core.Path.{◌≡◌, sym, ap}
-use Prim.Native.Nat.{ℕ, ◌≤◌}
 use native.Mathlib.Omega.{arith}
 use Rattle.readings.specs.Kinds.{kind_of}
 use Rattle.readings.proofs.kind.Kind.of_number.Goals as goal
 
-low : (k : ℕ) → (k ≡ 0 → ⊥) → (k ≡ 1 → ⊥) → (k ≡ 2 → ⊥) → (k ≡ 3 → ⊥) → 4 ≤ k
-low k a b c d = omega arith
-
-high : (k : ℕ) → 4 ≤ k → k ≤ 7 → (k ≡ 4 → ⊥) → (k ≡ 5 → ⊥) → (k ≡ 6 → ⊥) → 7 ≡ k
-high k l h a b c = omega arith
-
 pub returns-in_default : goal.returns-in_default
 unfolding kind_of
 returns-in_default c =
-    let r = c.in_default.in_default-own.rest in
-    ap kind_of (high c.args.number (low _ r.0.0.0.0.0.0.1 r.0.0.0.0.0.1 r.0.0.0.0.1 r.0.0.0.1) c.requires r.0.0.1 r.0.1 r.1)
+    let last : 7 ≡ c.args.number = omega arith in
+    ap kind_of last
 
 pub returns-in-0 : goal.returns-in-0
 unfolding kind_of

@@ -1,17 +1,12 @@
 -- `Position::at` meets its contract: each arm has the list's entry of its number, and past them there is none.
 use mathlib.Core.Path.{sym, ap}
-use Prim.Native.Nat.{◌≤◌}
 use native.Mathlib.Omega.{arith}
 use Rattle.readings.specs.Positions.{position_at}
 use Rattle.readings.proofs.LawsPositions.{position_past}
 use Rattle.readings.proofs.position.Position.at.Goals as goal
 
 pub returns-in_default : goal.returns-in_default
-unfolding position_at
-returns-in_default c =
-    let r = c.in_default.in_default-own.rest in
-    let low : 3 ≤ c.args.place = omega (arith, r.0.0.0.0.0.1, r.0.0.0.0.1, r.0.0.0.1) in
-    sym (position_past c.args.place (omega (arith, r.0.0.1, r.0.1, r.1)))
+returns-in_default c = sym (position_past c.args.place (omega arith))
 
 pub returns-in-0 : goal.returns-in-0
 unfolding position_at
