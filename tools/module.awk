@@ -109,8 +109,8 @@ function agree(ours, theirs, is_whole) {
     # past a number's own bits nobody reads.
     if (way == "inner") return (ours == "{ i8, i8 }" || ours == "{ i8, i32 }") && theirs == "i64"
     if (way != "exported") return 0
-    # A struct of 9 to 16 bytes comes back in the first two registers of results, eight bytes in each, on AArch64 and on RISC-V; so do the
-    # two numbers of an LLVM struct or array. What lies past the struct's end nobody reads.
+    # A struct of 9 to 16 bytes comes back in the first two registers of results, eight bytes in each, on RISC-V; so do the two numbers of an
+    # LLVM struct or array. What lies past the struct's end nobody reads.
     if ((ours == "{ i64, i64 }" || ours == "{ i64, i32 }") && theirs == "[2 x i64]") return 1
     # A struct of fewer than 8 bytes lies in one register, its first byte lowest, and the bits past it are unspecified for both sides: the
     # module says how many bytes, clang says the register.
