@@ -4,6 +4,7 @@ pub mod LawsMask
 pub mod LawsTrailer
 pub mod LawsRules
 pub mod LawsFaults
+pub mod LawsSeverity
 pub mod LawsDataIdentifiers
 pub mod LawsRequests
 pub mod LawsServer

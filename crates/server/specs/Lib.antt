@@ -4,6 +4,7 @@ pub mod Places
 pub mod Trailer
 pub mod Rules
 pub mod Faults
+pub mod Severity
 pub mod DataIdentifiers
 pub mod Requests
 pub mod Silence

@@ -71,7 +71,7 @@ pub fn put_two(response: &mut [u8], at: usize, number: u16) -> usize
     low + 1
 }
 
-fn put_code_and_status(response: &mut [u8], at: usize, code: u32, status: u8) -> usize
+pub fn put_code_and_status(response: &mut [u8], at: usize, code: u32, status: u8) -> usize
     requires { at + 4 ≤ length response.old }
     ensures { Puts response.old at (code_and_status code status) result response.new }
 {

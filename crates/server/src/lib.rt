@@ -8,6 +8,7 @@ mod faults;
 mod mask;
 mod requests;
 mod serving;
+mod severity;
 mod silence;
 mod status;
 mod trailer;
