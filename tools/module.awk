@@ -3,7 +3,7 @@
 #     -v way=rattle      the module as it is, for the processor that rattle made it for: what comes out is not compiled
 #     -v way=exported    its exported functions, for a processor with 64-bit addresses
 #     -v way=inner       the functions behind them, as castanhiu_inner_*, for one with 32-bit addresses; the exported ones are left out
-#     -v way=program     its start as program_main, and what it calls of the system, as program_*; its main, which is of x86-64, is left out
+#     -v way=program     its start as program_main, and what it calls of the system, as program_*; its main is left out
 #     -v triple= -v attributes=    the target, and what stands for the attributes that are for x86-64
 #     -v logic= -v tool=           the logic that must have proved the module; whose messages these are
 #
@@ -19,7 +19,7 @@ BEGIN {
     for (i = 1; i <= count; i++) known[list[i]] = 1
     from = "x86_64-unknown-linux-gnu"
     layout = "e-m:e-p270:32:32-p271:32:32-p272:64:64-i64:64-i128:128-f80:128-n8:16:32:64-S128"
-    own = "{ nounwind \"probe-stack\"=\"inline-asm\" \"stack-probe-size\"=\"3072\" \"target-cpu\"=\"x86-64-v2\" }"
+    own = "{ nounwind \"probe-stack\"=\"inline-asm\" \"stack-probe-size\"=\"3072\" \"target-cpu\"=\"x86-64\" }"
     if (way == "rattle" && triple != from) {
         from = "aarch64-unknown-linux-gnu"
         layout = "e-m:e-p270:32:32-p271:32:32-p272:64:64-i8:8:32-i16:16:32-i64:64-i128:128-n32:64-S128-Fn32"
@@ -37,12 +37,8 @@ BEGIN {
     common["{ nocallback nofree nounwind willreturn memory(argmem: readwrite) }"] = 1
     common["{ nocallback nofree nounwind willreturn memory(argmem: write) }"] = 1
     common["{ nocallback nocreateundeforpoison nofree nosync nounwind speculatable willreturn memory(none) }"] = 1
-    # What main does of its own on x86-64, where the system starts a program: it has a pipe that nobody reads answer an error in place of
-    # ending the program, as tools/program.c does too, looks at the processor's features, and says on standard error where one is missing.
-    of_main = "{ nounwind \"probe-stack\"=\"inline-asm\" \"stack-probe-size\"=\"3072\" \"target-cpu\"=\"x86-64\" }"
-    for_main["declare i64 @__sysv_signal(i32, i64)"] = 1
-    for_main["declare ptr @__x86_get_cpuid_feature_leaf(i32)"] = 1
-    for_main["declare i64 @__write(i32, ptr, i64)"] = 1
+    # What main calls before the start: a write to a pipe that nobody reads is to fail, and not to end the program. So does tools/program.c.
+    for_main = "declare i64 @__sysv_signal(i32, i64)"
 }
 
 function say(text) {
@@ -153,7 +149,6 @@ $0 in top {
 /^attributes #[0-9]+ = / {
     text = substr($0, index($0, "{"))
     if (text == own) sub(/\{.*/, attributes)
-    else if (way == "program" && text == of_main) sub(/\{.*/, "{ nounwind }")
     else if (!(text in common)) refuse("attributes that are not known")
     print
     next
@@ -172,7 +167,7 @@ $0 in top {
 /^declare / && way == "program" {
     text = $0
     sub(/ #[0-9]+$/, "", text)
-    if (text in for_main) next
+    if (text == for_main) next
     look($0)
     sub(/@/, "@program_")
     print held($0)
@@ -205,7 +200,7 @@ inside && /^}$/ { if (!left_out) print; inside = left_out = 0; next }
 inside && /^[A-Za-z][A-Za-z0-9_.]*:( +; (preds = .*|No predecessors!))?$/ { if (!left_out) print; next }
 inside && /^  / {
     look($0)
-    if (left_out && way == "program" && / call / && !/ call (i64 @__sysv_signal\(i32 13, i64 1\)|ptr @__x86_get_cpuid_feature_leaf\(i32 [02]\)|i32 @"[a-z_]+::main\+start"\(\)|i64 @__write\(i32 2, ptr %r[0-9]+, i64 [0-9]+\))$/) {
+    if (left_out && way == "program" && / call / && !/ call (i64 @__sysv_signal\(i32 13, i64 1\)|i32 @"[a-z_]+::main\+start"\(\))$/) {
         refuse("what main is not known to call")
     }
     if (left_out) next

@@ -91,24 +91,26 @@ under() { # NAME
 sum_of() { # NAME
     local crate
     {
-        cat crates.txt
+        cat crates.txt tools/module.sh
         for crate in $(under "$1" | sort); do
             find "crates/$crate" -name out -prune -o -type f \( -name '*.rt' -o -name '*.antt' \) -exec sha256sum {} + | sort -k 2
         done
     } | sha256sum | sed 's/ .*//'
 }
 
-# The first line of the text is the stamp of what was proved: where it is the same, nothing is proved or built again.
+# Every processor of x86-64 is to run what comes out, and not only those that rattle takes where nothing is said. The first line of the text is
+# the stamp of what was proved: where it is the same, nothing is proved or built again.
 proved() { # NAME [TRIPLE]
-    local name=$1 end=${2:-$x86} file=src/lib.rt words=() kind=(--crate-type staticlib) by=check stamp crate folder
+    local name=$1 end=${2:-$x86} file=src/lib.rt words=() kind=(--crate-type staticlib) by=check cpu=() stamp crate folder
     module=target/module/$name-$end.ll made=target/module/$name-$end
     how=("${how_library[@]}")
     if [ ! -f "crates/$name/$file" ]; then file=src/main.rt kind=() how=("${how_program[@]}"); fi
     [ -f "crates/$name/$file" ] || stop "no crate $name"
     stamp="; $pin $(sum_of "$name")"
     if [ -f "$module" ] && [ -f "$made" ] && [ "$(head -n 1 "$module")" = "$stamp" ]; then return; fi
+    if [ "$end" = "$x86" ]; then cpu=(--cpu=x86-64); fi
     if [ "$file $end" = "src/lib.rt $x86" ]; then by=lib; fi
-    (cd "crates/$name" && rt "$by" </dev/null) >"$room/said" 2>&1 || { tail -n 20 "$room/said" >&2; stop "$name is not proved"; }
+    (cd "crates/$name" && rt "$by" "${cpu[@]}" </dev/null) >"$room/said" 2>&1 || { tail -n 20 "$room/said" >&2; stop "$name is not proved"; }
     for crate in $(sed -n "s/#.*//; s/^$name\( staticlib\)* *: *//p" crates.txt); do
         if [ -d "crates/$crate" ]; then words+=(--extern "$crate=$PWD/crates/$crate/out/rlib/$crate.rlib"); else words+=(--extern "$crate=$kit/rlibs/$crate.rlib"); fi
     done
@@ -119,9 +121,9 @@ proved() { # NAME [TRIPLE]
         cd "crates/$name"
         "$kit/bin/rattle" build --crate-name "$name" "$file" --extern "std=$kit/rlibs/std.rlib" "${words[@]}" -L "dependency=$kit/rlibs" \
             --antt-project "$kit/rattle/logic/antt-project.json" --logic-built "$kit/logic_built" --links "$name=" "${kind[@]}" \
-            --target "$end" --backend llvm --toolchain "$folder" --incremental out/incremental -o "$room/built"
+            --target "$end" "${cpu[@]}" --backend llvm --toolchain "$folder" --incremental out/incremental -o "$room/built"
     ) >"$room/said" 2>&1 || { tail -n 20 "$room/said" >&2; stop "$name is not built"; }
-    grep -q "^logic=proved .*target=$end .*sum=$logic " "$room/said" || stop "rattle does not say that $name is proved"
+    grep -q "^logic=proved .*target=$end sum=$logic " "$room/said" || stop "rattle does not say that $name is proved"
     if grep -q '^logic=proved .*foreign=' "$room/said"; then stop "$name declares C functions of its own"; fi
     if [ "$end" = "$x86" ]; then
         [ "$(cat "$folder/words")" = "--target=$x86 --sysroot=$folder -march=x86-64 ${common[*]} -c -x ir module.bc -o module.o ${how[*]}" ] ||
