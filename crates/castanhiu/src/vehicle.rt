@@ -13,6 +13,9 @@ pub fn castanhiu_position_after(source: u8) -> AddressTakenTold
     Position::after(source).told()
 }
 
+// The number of the side of the successor.
+const SUCCESSOR: u8 = 1;
+
 // The side is 0 the predecessor or 1 the successor: refusal 1 for another.
 pub fn castanhiu_route(side: u8, own: u8, successor: bool, number: u32, data: &[u8]) -> RoutedTold
     ensures { result ≡ routed_told (route_from side own successor number (length «data».now)) }
@@ -20,7 +23,7 @@ pub fn castanhiu_route(side: u8, own: u8, successor: bool, number: u32, data: &[
     if side == 0 {
         return route(Side::Predecessor, own, successor, number, data).told();
     }
-    if side == 1 {
+    if side == SUCCESSOR {
         return route(Side::Successor, own, successor, number, data).told();
     }
     Routed::Refused(Refusal::RulesBroken).told()

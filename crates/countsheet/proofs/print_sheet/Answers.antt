@@ -6,6 +6,9 @@ use Rattle.sheet.proofs.LawsPrinted.{print-fits, print-whole}
 use Rattle.input.proofs.LawsWithin.{within-bytes}
 use Rattle.countsheet.proofs.print_sheet.Goals as goal
 
+pub send-requires : goal.send-requires
+send-requires c = (c.requires, print-whole _ (length-replicate {A = ℕ} page_size 0) c.print-end.ensures)
+
 pub slice_bounds-buffer-end : goal.slice_bounds-buffer-end
 slice_bounds-buffer-end c = within-bytes _ _ _ c.in-Bytes.is c.read_whole.ensures
 
@@ -23,6 +26,3 @@ slice_bounds-page-end c = print-fits _ (length-replicate {A = ℕ} page_size 0) 
 
 pub slice_bounds-send-end-2 : goal.slice_bounds-send-end-2
 slice_bounds-send-end-2 c = sym (length-take-le _ _ (print-fits _ (length-replicate {A = ℕ} page_size 0) c.print-end.ensures))
-
-pub send-requires : goal.send-requires
-send-requires c = (c.requires, print-whole _ (length-replicate {A = ℕ} page_size 0) c.print-end.ensures)

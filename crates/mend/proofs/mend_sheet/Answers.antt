@@ -16,14 +16,14 @@ module _ {s kept₀ page₀ kept page : List ℕ} {end listed : ℕ} {r : Mended
   list-is : length page₀ ≡ page_size → Stands (list_text s) page listed
   list-is = list-stands end listed (sym answered.0 ∙ is) answered.1
 
+pub send-requires : goal.send-requires
+send-requires c = (c.requires, (sheet-is c.mend.ensures c.in-Written.is (length-replicate {A = ℕ} 65535 0)).whole)
+
 pub slice_bounds-kept-end : goal.slice_bounds-kept-end
 slice_bounds-kept-end c = (sheet-is c.mend.ensures c.in-Written.is (length-replicate {A = ℕ} 65535 0)).within
 
 pub slice_bounds-send-end : goal.slice_bounds-send-end
 slice_bounds-send-end c = sym (length-take-le _ _ (sheet-is c.mend.ensures c.in-Written.is (length-replicate {A = ℕ} 65535 0)).within)
-
-pub send-requires : goal.send-requires
-send-requires c = (c.requires, (sheet-is c.mend.ensures c.in-Written.is (length-replicate {A = ℕ} 65535 0)).whole)
 
 pub slice_bounds-page-end : goal.slice_bounds-page-end
 slice_bounds-page-end c = (list-is c.mend.ensures c.in-Written.is (length-replicate {A = ℕ} page_size 0)).within

@@ -35,6 +35,13 @@ keeps c = all-kept c.loop-at.invariant c.if-input-gt-MOST_INPUT.false c.loop-at-
 lists : (c : goal.After-put_stretch-last) → Puts c.args.page.now 0 (stretch_lines c.args.input.now) c.put_stretch-last.result c.put_stretch-last.new.page
 lists c = all_listed c.loop-at.invariant c.if-input-gt-MOST_INPUT.false c.loop-at-test.false c.put_stretch-last.ensures
 
+pub loop-at-preserved-then-begins : goal.loop-at-preserved-then-begins
+loop-at-preserved-then-begins c =
+    let inv = c.loop-at.invariant in
+    let e = begins-there c.args.input.now c.loop-at.at c.begins.ensures c.if-begins.true in
+    let fits = kept-room inv c.if-input-gt-MOST_INPUT.false c.room.ensures.1 e in
+    going-keep inv e c.put_stretch-listed.ensures (put-fits fits (rw (rest-is c.args.input.now c.loop-at.at) at c.put-end.ensures))
+
 pub returns-then-input-gt-MOST_INPUT : goal.returns-then-input-gt-MOST_INPUT
 returns-then-input-gt-MOST_INPUT c = mends-not _ _ _ c.if-input-gt-MOST_INPUT.true
 
@@ -51,13 +58,6 @@ slice_bounds-put-end-then-begins c =
     let rest = take (length input - c.loop-at.at) (drop c.loop-at.at input) in
     let whole = begins-whole (drop c.loop-at.at input) (begins-there c.args.input.now c.loop-at.at c.begins.ensures c.if-begins.true) in
     sym (length-take-le 17 rest (omega (arith, whole, ap length (rest-is input c.loop-at.at))))
-
-pub loop-at-preserved-then-begins : goal.loop-at-preserved-then-begins
-loop-at-preserved-then-begins c =
-    let inv = c.loop-at.invariant in
-    let e = begins-there c.args.input.now c.loop-at.at c.begins.ensures c.if-begins.true in
-    let fits = kept-room inv c.if-input-gt-MOST_INPUT.false c.room.ensures.1 e in
-    going-keep inv e c.put_stretch-listed.ensures (put-fits fits (rw (rest-is c.args.input.now c.loop-at.at) at c.put-end.ensures))
 
 pub loop-at-preserved : goal.loop-at-preserved
 loop-at-preserved c =
