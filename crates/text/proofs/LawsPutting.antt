@@ -1,10 +1,10 @@
 -- Laws of texts put where they fit: what room says, what follows where there is room and where there is none, and digits put from the last one on.
 use mathlib.Core.Path.{◌≡◌, refl, sym, ap, ◌∙◌}
-use mathlib.Core.Bool.{Bool, true, false, not}
+use mathlib.Core.Bool.{Bool, true, false}
 use mathlib.Core.List.{List, [], ◌∷◌, ◌++◌}
 use Prim.Native.Nat.{ℕ, ◌+◌, ◌-◌, ◌/◌, ◌%◌, ◌≤◌, ◌<◌}
 use native.Mathlib.Omega.{arith}
-use borrow.Author.Tests.{leb-true, leb-false, le-leb, lt-leb, not-true, not-false}
+use borrow.Author.Tests.{leb-true, leb-false, le-leb, lt-leb}
 use lib.Dec.{leb}
 use lib.ListN.{length, take, set}
 use lib.Seq.{set_comm}
@@ -26,13 +26,13 @@ module _ (buffer : List ℕ) (at count : ℕ) where
   no_room h = lt-leb _ _ h
 
   -- what the code's test says of what `room` answered
-  pub room-is : {r : Bool} → r ≡ fits buffer at count → not r ≡ false → at + count ≤ length buffer
+  pub room-is : {r : Bool} → r ≡ fits buffer at count → r ≡ true → at + count ≤ length buffer
   unfolding fits
-  room-is {r} e t = leb-true _ _ (sym e ∙ not-false r t)
+  room-is {r} e t = leb-true _ _ (sym e ∙ t)
 
-  pub room-is-not : {r : Bool} → r ≡ fits buffer at count → not r ≡ true → length buffer < at + count
+  pub room-is-not : {r : Bool} → r ≡ fits buffer at count → r ≡ false → length buffer < at + count
   unfolding fits
-  room-is-not {r} e t = leb-false _ _ (sym e ∙ not-true r t)
+  room-is-not {r} e t = leb-false _ _ (sym e ∙ t)
 
   -- what `room` asks: no sum that passes the largest number
   pub room-asked : count ≤ length buffer → leb at (length buffer - count) ≡ fits buffer at count

@@ -8,10 +8,10 @@ use Rattle.text.proofs.LawsPutting.{room-is, room-is-not, puts-fitting, puts-not
 use Rattle.text.proofs.putting.put.Goals as goal
 
 pub returns-then-not-room : goal.returns-then-not-room
-returns-then-not-room c = puts-nothing _ _ _ (room-is-not _ _ _ c.room.ensures c.if-not-room.true-raw)
+returns-then-not-room c = puts-nothing _ _ _ (room-is-not _ _ _ c.room.ensures c.if-not-room.true)
 
 pub loop-i-init : goal.loop-i-init
-loop-i-init c = (search rules, room-is _ _ _ c.room.ensures c.if-not-room.false-raw, record { ends = refl; holds = sym (written_none _ _) })
+loop-i-init c = (search rules, room-is _ _ _ c.room.ensures c.if-not-room.false, record { ends = refl; holds = sym (written_none _ _) })
 
 pub bounds-buffer-at : goal.bounds-buffer-at
 bounds-buffer-at c = omega (arith, keeps-length c.loop-i.invariant.2)

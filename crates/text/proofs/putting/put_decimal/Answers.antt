@@ -6,10 +6,10 @@ use Rattle.text.proofs.LawsPutting.{room-is, room-is-not, puts-fitting, puts-not
 use Rattle.text.proofs.putting.put_decimal.Goals as goal
 
 pub returns-then-not-room : goal.returns-then-not-room
-returns-then-not-room c = puts-nothing _ _ _ (omega (arith, room-is-not _ _ _ c.room.ensures c.if-not-room.true-raw, c.places_of-places.ensures))
+returns-then-not-room c = puts-nothing _ _ _ (omega (arith, room-is-not _ _ _ c.room.ensures c.if-not-room.true, c.places_of-places.ensures))
 
 pub overflow_add-last : goal.overflow_add-last
-overflow_add-last c = omega (arith, room-is _ _ _ c.room.ensures c.if-not-room.false-raw)
+overflow_add-last c = omega (arith, room-is _ _ _ c.room.ensures c.if-not-room.false)
 
 pub overflow_sub-last : goal.overflow_sub-last
 overflow_sub-last c =
@@ -18,7 +18,7 @@ overflow_sub-last c =
 pub loop-rest-init : goal.loop-rest-init
 loop-rest-init c =
     let some = length_some c.args.number in
-    (room-is _ _ _ c.room.ensures c.if-not-room.false-raw, omega (arith, c.places_of-places.ensures), to-put-first _ _ _ c.places_of-places.ensures)
+    (room-is _ _ _ c.room.ensures c.if-not-room.false, omega (arith, c.places_of-places.ensures), to-put-first _ _ _ c.places_of-places.ensures)
 
 pub bounds-buffer-last : goal.bounds-buffer-last
 bounds-buffer-last c = omega (arith, to-put-length c.loop-rest.invariant.2)
