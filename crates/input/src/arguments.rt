@@ -13,26 +13,17 @@ pub enum WordRead {
     TooLong,
 }
 
-// How many arguments there are, the program's name among them.
-fn argument_count(rt: HostRuntime) -> usize {
-    for i in 0..usize::MAX {
-        if matches!(rt.arg(i, &mut []), Err(FillError::NotPresent)) {
-            return i;
-        }
-    }
-    usize::MAX
-}
-
-// How many words there are.
+// How many words there are: one less than the number of the first that is not there.
 #[tactic(auto, unfolding(crate::specs::Within::words_within))]
 pub fn words(rt: HostRuntime) -> usize
     ensures { words_within result ≡ true }
 {
-    let count = argument_count(rt);
-    if count == 0 {
-        return 0;
+    for number in 1..=usize::MAX {
+        if matches!(rt.arg(number, &mut []), Err(FillError::NotPresent)) {
+            return number - 1;
+        }
     }
-    count - 1
+    usize::MAX - 1
 }
 
 // Puts a word, counted from 1, at the start of the buffer.
