@@ -61,6 +61,12 @@ all-each p zero h = refl
 all-each p (suc n) h = rw (all-each p n (λ i l. h i (omega arith)), h n (omega arith))
 
 -- a row of tests is two rows, one behind the other
+-- two tests that agree at each index
+pub all_same : (p q : ℕ → Bool) (n : ℕ) → ((i : ℕ) → i < n → p i ≡ q i) → all_below p n ≡ all_below q n
+unfolding all_below
+all_same p q zero h = refl
+all_same p q (suc n) h = rw (all_same p q n (λ i l. h i (omega arith)), h n (omega arith))
+
 pub all_both : (p q : ℕ → Bool) (n : ℕ) → both (all_below p n) (all_below q n) ≡ all_below (λ i. both (p i) (q i)) n
 unfolding all_below both
 all_both p q zero = refl

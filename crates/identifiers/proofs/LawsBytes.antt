@@ -6,7 +6,8 @@ use native.Mathlib.Nat.{zero-add}
 use native.Mathlib.Numerals.{add-one}
 use native.Mathlib.Omega.{arith}
 use lib.ListN.{length, get_or, take, drop, set, length-set, length-append, take-append-drop}
-use lib.Seq.{take-suc, take-suc-set, take-set-le, drop-set-lt, drop_at}
+use lib.Seq.{take-suc, take-suc-set, take-set-le, drop-set-lt, drop_at, drop-drop}
+use borrow.Rule.Slice.PartMut.{put_mid}
 use Rattle.identifiers.specs.Below.{list_below}
 use Rattle.identifiers.specs.Bytes.{written, Puts}
 use Rattle.identifiers.proofs.LawsBelow.{list-more, list_same}
@@ -58,6 +59,14 @@ back-stays buffer at (b ∷ bytes) n h = back-stays (set buffer at b) (at + 1) b
 pub drop-written : (buffer : List ℕ) (at : ℕ) (bytes : List ℕ) → drop (at + length bytes) (written buffer at bytes) ≡ drop (at + length bytes) buffer
 drop-written buffer at bytes = back-stays buffer at bytes (at + length bytes) (omega arith)
 
+-- a text copied over the part of the buffer from the place on
+pub part-written : (buffer : List ℕ) (at k : ℕ) (text ys : List ℕ) → at + length text ≤ length buffer → k ≡ length text → ys ≡ text → put_mid at k buffer ys ≡ written buffer at text
+part-written buffer at k text ys h e q =
+    ap₂ (λ (l m : List ℕ). take at buffer ++ (l ++ m)) q (drop-drop k at buffer ∙ ap (λ (n : ℕ). drop n buffer) (omega arith))
+    ∙ sym (append_assoc (take at buffer) text (drop (at + length text) buffer))
+    ∙ ap₂ ◌++◌ (sym (take-written buffer at text h)) (sym (drop-written buffer at text))
+    ∙ take-append-drop (at + length text) (written buffer at text)
+
 -- bytes from the start on: the first of them stand in front of what they do not reach, and the others go on behind
 pub written-front : (old head rest bytes : List ℕ) → length old ≡ length head → written (old ++ rest) 0 (head ++ bytes) ≡ written (head ++ rest) (length head) bytes
 written-front old head rest bytes e =
@@ -76,6 +85,8 @@ puts_none buffer at = record { ends = omega arith; holds = refl }
 pub puts-byte : (buffer : List ℕ) (at b : ℕ) → Puts buffer at (b ∷ []) (at + 1) (set buffer at b)
 unfolding written
 puts-byte buffer at b = record { ends = refl; holds = refl }
+
+pub ruleset byte_rules = (puts-byte)
 
 -- the same bytes, said otherwise
 pub puts-as : {a b xs ys : List ℕ} {at end : ℕ} → Puts a at xs end b → xs ≡ ys → Puts a at ys end b

@@ -4,24 +4,22 @@ use Prim.Native.Nat.{ℕ, ◌+◌, ◌-◌, ◌*◌, ◌^◌, ◌≤◌, ◌<◌
 use native.Mathlib.Decide.{dec_lt}
 use native.Mathlib.Omega.{arith}
 use lib.Dec.{ltb, lit<}
+use Rattle.std.specs.Prelude.{Result, Ok, Err}
 use Rattle.identifiers.specs.Choice.{pick, either}
 use Rattle.identifiers.specs.Refusals.{refusal}
 use Rattle.identifiers.specs.Identifiers.{formula, reserved_bit, fields_of, frame_passing, frame_read, read_of, written_as}
 use Rattle.identifiers.specs.declared.identifier.Identifier.{Identifier}
-use Rattle.identifiers.specs.declared.identifier.IdentifierRead.{IdentifierRead}
-use Rattle.identifiers.specs.declared.identifier.IdentifierRead.TheVariants as read
-use Rattle.identifiers.specs.declared.identifier.IdentifierWritten.{IdentifierWritten}
-use Rattle.identifiers.specs.declared.identifier.IdentifierWritten.TheVariants as written
 use Rattle.identifiers.proofs.LawsIdentifiers.{passing-2, passing-3, passing-fields, frame-read-passing, reserved-is}
 use Rattle.identifiers.proofs.LawsInverse.{Widths, fields-widths, formula-of-fields, formula-fields}
+use Rattle.identifiers.specs.declared.refusal.Refusal.{Refusal}
 
 -- ---- R set: the same number with R 0 is 2 ^ 25 less, and is read with the same refusal, or the same fields but for R
 abbrev pub with_reserved : ℕ → Identifier → Identifier
 with_reserved R i = record { priority = i.priority; reserved = R; data_page = i.data_page; format = i.format; specific = i.specific; source = i.source }
 
-abbrev pub read_set : IdentifierRead → IdentifierRead
-read_set (read.Fields i) = read.Fields (with_reserved 1 i)
-read_set (read.Refused why) = read.Refused why
+abbrev pub read_set : Result Identifier Refusal → Result Identifier Refusal
+read_set (Ok i) = Ok (with_reserved 1 i)
+read_set (Err why) = Err why
 
 module _ (n : ℕ) (set : reserved_bit n ≡ 1) where
   same-range : 2 ^ 29 ≤ n → 2 ^ 29 ≤ n - 2 ^ 25
@@ -48,7 +46,7 @@ module _ (n : ℕ) (set : reserved_bit n ≡ 1) where
       go : Dec (n < 2 ^ 29) → Dec (8 < count) → frame_passing n count ≡ read_set (frame_passing (n - 2 ^ 25) count)
       go (no h) l = passing-2 n count (omega arith) ∙ sym (ap read_set (passing-2 _ count (same-range (omega arith))))
       go (yes h) (yes l) = passing-3 n count h l ∙ sym (ap read_set (passing-3 _ count (omega arith) l))
-      go (yes h) (no l) = passing-fields n count h (omega arith) ∙ ap read.Fields (set-fields h) ∙ sym (ap read_set (passing-fields _ count (omega arith) (omega arith)))
+      go (yes h) (no l) = passing-fields n count h (omega arith) ∙ ap Ok (set-fields h) ∙ sym (ap read_set (passing-fields _ count (omega arith) (omega arith)))
 
 -- ---- R 0: as before
 -- the reader refused by 4 a number below 2 ^ 29 with R set, as the receiver's still does
@@ -57,10 +55,10 @@ unfolding read_of
 read-unchanged n h = sym (frame-read-passing n 0 (λ (r : n < 2 ^ 29) l. h r))
 
 -- "Writers set R to 0": the writer before, which had no R to write
-pub written_before : Identifier → IdentifierWritten
+pub written_before : Identifier → Result ℕ Refusal
 written_before i =
-    pick (either (ltb 7 i.priority) (ltb 1 i.data_page)) (written.Refused (refusal 16))
-    (written.Number (i.priority * 2 ^ 26 + 0 * 2 ^ 25 + i.data_page * 2 ^ 24 + i.format * 2 ^ 16 + i.specific * 2 ^ 8 + i.source))
+    pick (either (ltb 7 i.priority) (ltb 1 i.data_page)) (Err (refusal 16))
+    (Ok (i.priority * 2 ^ 26 + 0 * 2 ^ 25 + i.data_page * 2 ^ 24 + i.format * 2 ^ 16 + i.specific * 2 ^ 8 + i.source))
 
 pub write-unchanged : (i : Identifier) → i.reserved ≡ 0 → written_as i ≡ written_before i
 unfolding written_as formula either written_before

@@ -1,5 +1,6 @@
 -- The crate's laws, which belong to no one function and which upper crates cite.
 pub mod LawsChoice
+pub mod LawsOptions
 pub mod LawsBelow
 pub mod LawsBytes
 pub mod LawsParts

@@ -1,16 +1,13 @@
 -- The identifier, read and written (document 01, "Identifier, vehicle, route"; 001; document 02, 2026-07).
-use Rattle.std.specs.Prelude.{ℕ, ◌+◌, ◌*◌, ◌/◌, ◌%◌, ◌^◌, leb, ltb, eqb}
+use Rattle.std.specs.Prelude.{ℕ, ◌+◌, ◌*◌, ◌/◌, ◌%◌, ◌^◌, leb, ltb, eqb, Result, Ok, Err}
 use Rattle.identifiers.specs.Choice.{pick, either}
 use Rattle.identifiers.specs.Refusals.{refusal, number_of}
 use Rattle.identifiers.specs.declared.identifier.Identifier.{Identifier}
-use Rattle.identifiers.specs.declared.identifier.IdentifierRead.{IdentifierRead}
-use Rattle.identifiers.specs.declared.identifier.IdentifierRead.TheVariants as read
 use Rattle.identifiers.specs.declared.identifier.IdentifierReadTold.{IdentifierReadTold}
-use Rattle.identifiers.specs.declared.identifier.IdentifierWritten.{IdentifierWritten}
-use Rattle.identifiers.specs.declared.identifier.IdentifierWritten.TheVariants as written
 use Rattle.identifiers.specs.declared.identifier.IdentifierWrittenTold.{IdentifierWrittenTold}
 use Rattle.identifiers.specs.declared.identifier.Target.{Target}
 use Rattle.identifiers.specs.declared.identifier.Target.TheVariants.{Destination, GroupExtension}
+use Rattle.identifiers.specs.declared.refusal.Refusal.{Refusal}
 
 -- "Identifier = P x 2^26 + R x 2^25 + DP x 2^24 + PF x 2^16 + PS x 2^8 + SA"
 unfoldable pub formula : Identifier → ℕ
@@ -31,38 +28,38 @@ fields_of n = record {
 }
 
 -- a frame's number, and how many data bytes it has: 2 "identifier 2^29 or more", 3 "more than 8 data bytes"
-unfoldable pub frame_passing : ℕ → ℕ → IdentifierRead
+unfoldable pub frame_passing : ℕ → ℕ → Result Identifier Refusal
 frame_passing n count =
-    pick (leb (2 ^ 29) n) (read.Refused (refusal 2))
-    (pick (ltb 8 count) (read.Refused (refusal 3))
-    (read.Fields (fields_of n)))
+    pick (leb (2 ^ 29) n) (Err (refusal 2))
+    (pick (ltb 8 count) (Err (refusal 3))
+    (Ok (fields_of n)))
 
 -- 4 "R set", of a number that passes; document 02, 2026-07: "4 remains for receiver and message readings, at its place"
-unfoldable pub read_passing : IdentifierRead → IdentifierRead
-read_passing (read.Fields i) = pick (eqb i.reserved 1) (read.Refused (refusal 4)) (read.Fields i)
-read_passing (read.Refused why) = read.Refused why
+unfoldable pub read_passing : Result Identifier Refusal → Result Identifier Refusal
+read_passing (Ok i) = pick (eqb i.reserved 1) (Err (refusal 4)) (Ok i)
+read_passing (Err why) = Err why
 
-unfoldable pub frame_read : ℕ → ℕ → IdentifierRead
+unfoldable pub frame_read : ℕ → ℕ → Result Identifier Refusal
 frame_read n count = read_passing (frame_passing n count)
 
 -- a number alone, as that of a frame without data; document 02, 2026-07: "The identifier reader now gives R instead of refusing"
-unfoldable pub read_of : ℕ → IdentifierRead
+unfoldable pub read_of : ℕ → Result Identifier Refusal
 read_of n = frame_passing n 0
 
 -- 16 "P over 7 or DP over 1 to be written"; 2026-07: "the writer can set it when told", so that R over 1 is 16 as well
-unfoldable pub written_as : Identifier → IdentifierWritten
+unfoldable pub written_as : Identifier → Result ℕ Refusal
 written_as i =
-    pick (either (ltb 7 i.priority) (either (ltb 1 i.reserved) (ltb 1 i.data_page))) (written.Refused (refusal 16)) (written.Number (formula i))
+    pick (either (ltb 7 i.priority) (either (ltb 1 i.reserved) (ltb 1 i.data_page))) (Err (refusal 16)) (Ok (formula i))
 
 -- "PF below 240: PS is a destination. Otherwise a group extension."
 unfoldable pub target_of : Identifier → Target
 target_of i = pick (ltb i.format 240) (Destination i.specific) (GroupExtension i.specific)
 
 -- the answers in document 01's numbers
-unfoldable pub read_told : IdentifierRead → IdentifierReadTold
-read_told (read.Fields i) = record { refusal = 0; fields = i }
-read_told (read.Refused why) = record { refusal = number_of why; fields = record { priority = 0; reserved = 0; data_page = 0; format = 0; specific = 0; source = 0 } }
+unfoldable pub read_told : Result Identifier Refusal → IdentifierReadTold
+read_told (Ok i) = record { refusal = 0; fields = i }
+read_told (Err why) = record { refusal = number_of why; fields = record { priority = 0; reserved = 0; data_page = 0; format = 0; specific = 0; source = 0 } }
 
-unfoldable pub written_told : IdentifierWritten → IdentifierWrittenTold
-written_told (written.Number n) = record { refusal = 0; number = n }
-written_told (written.Refused why) = record { refusal = number_of why; number = 0 }
+unfoldable pub written_told : Result ℕ Refusal → IdentifierWrittenTold
+written_told (Ok n) = record { refusal = 0; number = n }
+written_told (Err why) = record { refusal = number_of why; number = 0 }

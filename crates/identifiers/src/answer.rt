@@ -1,38 +1,25 @@
-// The answer to what is done or refused, and nothing else told.
+// The answer to what is done or refused, and nothing else told, in numbers.
 ghost use Rattle.std.specs.Prelude.{◌≡◌};
-ghost use Rattle.identifiers.specs.Answers.{answer_number, answer_told};
+ghost use Rattle.identifiers.specs.Answers.{answer_told};
 
 use crate::refusal::Refusal;
 
-#[derive(Clone, Copy)]
-pub enum Answer {
-    Done,
-    Refused(Refusal),
-}
-
-// The same in numbers: the refusal, 0 for none.
+// The refusal, 0 for none.
 #[repr(C)]
 #[derive(Clone, Copy)]
 pub struct AnswerTold {
     pub refusal: u8,
 }
 
-impl Answer {
-    // The refusal's number, 0 for none.
-    pub fn number(self) -> u8
-        ensures { result ≡ answer_number self }
-    {
-        match self {
-            Answer::Done => 0,
-            Answer::Refused(why) => why.number(),
-        }
-    }
+impl From<Result<(), Refusal>> for AnswerTold {
+    ghost from_gives = { λ answer told. told ≡ answer_told answer };
 
-    pub fn told(self) -> AnswerTold
-        ensures { result ≡ answer_told self }
-    {
-        AnswerTold {
-            refusal: self.number(),
-        }
+    #[tactic(auto, unfolding(crate::specs::Answers::answer_told))]
+    fn from(answer: Result<(), Refusal>) -> AnswerTold {
+        let refusal = match answer {
+            Ok(()) => 0,
+            Err(why) => why.number(),
+        };
+        AnswerTold { refusal }
     }
 }

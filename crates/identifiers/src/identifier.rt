@@ -22,7 +22,7 @@ const FIRST_GROUP: u8 = 240;
 
 // P, R, DP, PF, PS and SA.
 #[repr(C)]
-#[derive(Clone, Copy)]
+#[derive(Clone, Copy, Debug, Default, PartialEq, Eq)]
 pub struct Identifier {
     pub priority: u8,
     pub reserved: u8,
@@ -32,20 +32,8 @@ pub struct Identifier {
     pub source: u8,
 }
 
-#[derive(Clone, Copy)]
-pub enum IdentifierRead {
-    Fields(Identifier),
-    Refused(Refusal),
-}
-
-#[derive(Clone, Copy)]
-pub enum IdentifierWritten {
-    Number(u32),
-    Refused(Refusal),
-}
-
 // What PS is.
-#[derive(Clone, Copy)]
+#[derive(Clone, Copy, Debug, PartialEq, Eq)]
 pub enum Target {
     Destination(u8),
     GroupExtension(u8),
@@ -67,17 +55,17 @@ pub struct IdentifierWrittenTold {
     pub number: u32,
 }
 
-// Checks 2 and 3 of a number and a count of data bytes.
-fn frame_passing(number: u32, count: usize) -> IdentifierRead
+// Checks 2 and 3 of a number and a count of data bytes. By weights throughout, and no `to_be_bytes`: P, R and DP share a byte.
+fn frame_passing(number: u32, count: usize) -> Result<Identifier, Refusal>
     ensures { result ≡ frame_passing number count }
 {
     if TOO_LARGE <= number {
-        return IdentifierRead::Refused(Refusal::IdentifierTooLarge);
+        return Err(Refusal::IdentifierTooLarge);
     }
     if 8 < count {
-        return IdentifierRead::Refused(Refusal::TooManyDataBytes);
+        return Err(Refusal::TooManyDataBytes);
     }
-    IdentifierRead::Fields(Identifier {
+    Ok(Identifier {
         priority: (number / P_WEIGHT % 8) as u8,
         reserved: (number / R_WEIGHT % 2) as u8,
         data_page: (number / DP_WEIGHT % 2) as u8,
@@ -89,47 +77,44 @@ fn frame_passing(number: u32, count: usize) -> IdentifierRead
 
 impl Identifier {
     // The fields of a number: refusal 2.
-    pub fn read(number: u32) -> IdentifierRead
+    pub fn read(number: u32) -> Result<Identifier, Refusal>
         ensures { result ≡ read_of number }
     {
         frame_passing(number, 0)
     }
 
-    // The fields of a frame that is sent on: refusal 2 for its number, then 3 for its data.
-    pub fn of_passing_frame(number: u32, data: &[u8]) -> IdentifierRead
+    // The fields of a frame that is sent on: refusal 2 for its number, then 3 for its data. Both stand apart, as C hands them in.
+    pub fn of_passing_frame(number: u32, data: &[u8]) -> Result<Identifier, Refusal>
         ensures { result ≡ frame_passing number (length «data».now) }
     {
         frame_passing(number, data.len())
     }
 
     // The fields of a frame whose content is read: the same, then 4 for R.
-    pub fn of_frame(number: u32, data: &[u8]) -> IdentifierRead
+    pub fn of_frame(number: u32, data: &[u8]) -> Result<Identifier, Refusal>
         ensures { result ≡ frame_read number (length «data».now) }
     {
-        let answer = frame_passing(number, data.len());
-        let IdentifierRead::Fields(fields) = answer else {
-            return answer;
-        };
+        let fields = frame_passing(number, data.len())?;
         if fields.reserved == 1 {
-            return IdentifierRead::Refused(Refusal::ReservedBitSet);
+            return Err(Refusal::ReservedBitSet);
         }
-        answer
+        Ok(fields)
     }
 
     // The number of the fields: refusal 16 where P is over 7, R over 1 or DP over 1.
-    pub fn write(self) -> IdentifierWritten
+    pub fn write(self) -> Result<u32, Refusal>
         ensures { result ≡ written_as self }
     {
         if 7 < self.priority {
-            return IdentifierWritten::Refused(Refusal::NotWritable);
+            return Err(Refusal::NotWritable);
         }
         if 1 < self.reserved {
-            return IdentifierWritten::Refused(Refusal::NotWritable);
+            return Err(Refusal::NotWritable);
         }
         if 1 < self.data_page {
-            return IdentifierWritten::Refused(Refusal::NotWritable);
+            return Err(Refusal::NotWritable);
         }
-        IdentifierWritten::Number(
+        Ok(
             self.priority as u32 * P_WEIGHT
                 + self.reserved as u32 * R_WEIGHT
                 + self.data_page as u32 * DP_WEIGHT
@@ -150,34 +135,29 @@ impl Identifier {
     }
 }
 
-impl IdentifierRead {
-    pub fn told(self) -> IdentifierReadTold
-        ensures { result ≡ read_told self }
-    {
-        match self {
-            IdentifierRead::Fields(fields) => IdentifierReadTold { refusal: 0, fields },
-            IdentifierRead::Refused(why) => IdentifierReadTold {
+impl From<Result<Identifier, Refusal>> for IdentifierReadTold {
+    ghost from_gives = { λ answer told. told ≡ read_told answer };
+
+    #[tactic(auto, unfolding(crate::specs::Identifiers::read_told))]
+    fn from(answer: Result<Identifier, Refusal>) -> IdentifierReadTold {
+        match answer {
+            Ok(fields) => IdentifierReadTold { refusal: 0, fields },
+            Err(why) => IdentifierReadTold {
                 refusal: why.number(),
-                fields: Identifier {
-                    priority: 0,
-                    reserved: 0,
-                    data_page: 0,
-                    format: 0,
-                    specific: 0,
-                    source: 0,
-                },
+                fields: Identifier::default(),
             },
         }
     }
 }
 
-impl IdentifierWritten {
-    pub fn told(self) -> IdentifierWrittenTold
-        ensures { result ≡ written_told self }
-    {
-        match self {
-            IdentifierWritten::Number(number) => IdentifierWrittenTold { refusal: 0, number },
-            IdentifierWritten::Refused(why) => IdentifierWrittenTold {
+impl From<Result<u32, Refusal>> for IdentifierWrittenTold {
+    ghost from_gives = { λ answer told. told ≡ written_told answer };
+
+    #[tactic(auto, unfolding(crate::specs::Identifiers::written_told))]
+    fn from(answer: Result<u32, Refusal>) -> IdentifierWrittenTold {
+        match answer {
+            Ok(number) => IdentifierWrittenTold { refusal: 0, number },
+            Err(why) => IdentifierWrittenTold {
                 refusal: why.number(),
                 number: 0,
             },

@@ -5,9 +5,6 @@ mod answer;
 mod identifier;
 mod refusal;
 
-pub use answer::{Answer, AnswerTold};
-pub use identifier::{
-    Identifier, IdentifierRead, IdentifierReadTold, IdentifierWritten, IdentifierWrittenTold,
-    Target,
-};
+pub use answer::AnswerTold;
+pub use identifier::{Identifier, IdentifierReadTold, IdentifierWrittenTold, Target};
 pub use refusal::Refusal;

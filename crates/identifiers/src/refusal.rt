@@ -2,65 +2,39 @@
 ghost use Rattle.std.specs.Prelude.{◌≡◌};
 ghost use Rattle.identifiers.specs.Refusals.{number_of};
 
-#[derive(Clone, Copy)]
+#[derive(Clone, Copy, Debug, PartialEq, Eq)]
 pub enum Refusal {
-    RulesBroken,
-    IdentifierTooLarge,
-    TooManyDataBytes,
-    ReservedBitSet,
-    NotDiagnostic,
-    NoOtherVehicle,
-    OtherDestination,
-    OtherUnit,
-    Malformed,
-    FlowControl,
-    OverLong,
-    NothingOpen,
-    WrongNumber,
-    Late,
-    NoAddress,
-    NotWritable,
-    WrongLength,
-    CodeNotHeld,
-    StatusOutsideMask,
-    NoReading,
-    InputTooLong,
-    FieldCutShort,
-    WrongTagOrLength,
-    WrongContent,
-    MalformedLine,
+    RulesBroken = 1,
+    IdentifierTooLarge = 2,
+    TooManyDataBytes = 3,
+    ReservedBitSet = 4,
+    NotDiagnostic = 5,
+    NoOtherVehicle = 6,
+    OtherDestination = 7,
+    OtherUnit = 8,
+    Malformed = 9,
+    FlowControl = 10,
+    OverLong = 11,
+    NothingOpen = 12,
+    WrongNumber = 13,
+    Late = 14,
+    NoAddress = 15,
+    NotWritable = 16,
+    WrongLength = 17,
+    CodeNotHeld = 18,
+    StatusOutsideMask = 19,
+    NoReading = 20,
+    InputTooLong = 21,
+    FieldCutShort = 22,
+    WrongTagOrLength = 23,
+    WrongContent = 24,
+    MalformedLine = 25,
 }
 
 impl Refusal {
     pub fn number(self) -> u8
         ensures { result ≡ number_of self }
     {
-        match self {
-            Refusal::RulesBroken => 1,
-            Refusal::IdentifierTooLarge => 2,
-            Refusal::TooManyDataBytes => 3,
-            Refusal::ReservedBitSet => 4,
-            Refusal::NotDiagnostic => 5,
-            Refusal::NoOtherVehicle => 6,
-            Refusal::OtherDestination => 7,
-            Refusal::OtherUnit => 8,
-            Refusal::Malformed => 9,
-            Refusal::FlowControl => 10,
-            Refusal::OverLong => 11,
-            Refusal::NothingOpen => 12,
-            Refusal::WrongNumber => 13,
-            Refusal::Late => 14,
-            Refusal::NoAddress => 15,
-            Refusal::NotWritable => 16,
-            Refusal::WrongLength => 17,
-            Refusal::CodeNotHeld => 18,
-            Refusal::StatusOutsideMask => 19,
-            Refusal::NoReading => 20,
-            Refusal::InputTooLong => 21,
-            Refusal::FieldCutShort => 22,
-            Refusal::WrongTagOrLength => 23,
-            Refusal::WrongContent => 24,
-            Refusal::MalformedLine => 25,
-        }
+        self as u8
     }
 }

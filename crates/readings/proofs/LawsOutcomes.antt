@@ -7,15 +7,16 @@ use native.Mathlib.Nat.{div-one, div-lt_iff_lt-mul, le-div_iff_mul-le, le_of_suc
 use native.Mathlib.Omega.{arith}
 use borrow.Author.Tests.{lt-ltb, le-ltb, le-leb, lt-leb, eq-eqb, ne_eqb, leb-true, leb-false, ltb-true, ltb-false, eqb-true, eqb-false}
 use lib.Dec.{leb, eqb, lit<, lit≤}
+use Rattle.std.specs.Prelude.{Result, Err}
 use Rattle.identifiers.specs.Choice.{pick}
 use Rattle.identifiers.specs.Refusals.{refusal}
 use Rattle.identifiers.proofs.LawsChoice.{pick_true, pick-false, by-test}
 use Rattle.readings.specs.declared.kind.Kind.{Kind}
-use Rattle.readings.specs.declared.reading.Reading.TheVariants.{Reserved, Error, NotAvailable, BeyondRange, Indicator}
-use Rattle.readings.specs.declared.reading.ParameterRead.{ParameterRead}
-use Rattle.readings.specs.declared.reading.ParameterRead.TheVariants as parameter
 use Rattle.readings.specs.Kinds.{kind_of, high_byte, span}
 use Rattle.readings.specs.Readings.{Says, says_value, says_beyond_range, says_indicator, says_reserved, says_error, says_not_available, says_20, without_value, in_range, measured_by, measured_as, parameter_of}
+use Rattle.readings.specs.declared.reading.Measured.{Measured}
+use Rattle.identifiers.specs.declared.refusal.Refusal.{Refusal}
+use Rattle.readings.specs.declared.reading.Reading.TheVariants.{Reserved, Error, NotAvailable, BeyondRange, Indicator}
 
 -- ---- the outcomes by the high byte, once for every width: one law a rung
 module _ (k : Kind) (raw high : ℕ) where
@@ -28,7 +29,7 @@ module _ (k : Kind) (raw high : ℕ) where
   high-indicator h = pick-false _ _ (lt-leb high 250 (omega arith)) ∙ pick_true _ _ (eq-eqb _ _ h)
 
   past-251 : 251 < high → measured_by k raw high
-      ≡ pick (leb high 253) (without_value Reserved) (pick (eqb high 254) (without_value Error) (pick (eqb high 255) (without_value NotAvailable) (parameter.Refused (refusal 20))))
+      ≡ pick (leb high 253) (without_value Reserved) (pick (eqb high 254) (without_value Error) (pick (eqb high 255) (without_value NotAvailable) (Err (refusal 20))))
   unfolding measured_by
   past-251 h = pick-false _ _ (lt-leb high 250 (omega arith)) ∙ pick-false _ _ (ne_eqb high 251 (λ (e : high ≡ 251). omega arith))
 
@@ -38,13 +39,13 @@ module _ (k : Kind) (raw high : ℕ) where
   pub high-error : high ≡ 254 → measured_by k raw high ≡ without_value Error
   high-error h = past-251 (omega arith) ∙ pick-false _ _ (lt-leb high 253 (omega arith)) ∙ pick_true _ _ (eq-eqb _ _ h)
 
-  past-254 : 254 < high → measured_by k raw high ≡ pick (eqb high 255) (without_value NotAvailable) (parameter.Refused (refusal 20))
+  past-254 : 254 < high → measured_by k raw high ≡ pick (eqb high 255) (without_value NotAvailable) (Err (refusal 20))
   past-254 h = past-251 (omega arith) ∙ pick-false _ _ (lt-leb high 253 (omega arith)) ∙ pick-false _ _ (ne_eqb high 254 (λ (e : high ≡ 254). omega arith))
 
   pub high-not-available : high ≡ 255 → measured_by k raw high ≡ without_value NotAvailable
   high-not-available h = past-254 (omega arith) ∙ pick_true _ _ (eq-eqb _ _ h)
 
-  pub high-20 : 255 < high → measured_by k raw high ≡ parameter.Refused (refusal 20)
+  pub high-20 : 255 < high → measured_by k raw high ≡ Err (refusal 20)
   high-20 h = past-254 (omega arith) ∙ pick-false _ _ (ne_eqb high 255 (λ (e : high ≡ 255). omega arith))
 
 -- ---- the same of the raw number's own high byte
@@ -69,7 +70,7 @@ module _ (k : Kind) (raw : ℕ) where
   unfolding measured_as
   measured-not-available h = high-not-available k raw _ h
 
-  pub measured-20 : 255 < high_byte k.bytes raw → measured_as k raw ≡ parameter.Refused (refusal 20)
+  pub measured-20 : 255 < high_byte k.bytes raw → measured_as k raw ≡ Err (refusal 20)
   unfolding measured_as
   measured-20 h = high-20 k raw _ h
 
@@ -81,7 +82,7 @@ unfolding in_range
 beyond-range k raw h = pick_true _ _ (lt-ltb _ _ h)
 
 -- 20 "kind over 7"
-pub kind-20 : (kind raw : ℕ) → 7 < kind → parameter_of kind raw ≡ parameter.Refused (refusal 20)
+pub kind-20 : (kind raw : ℕ) → 7 < kind → parameter_of kind raw ≡ Err (refusal 20)
 unfolding parameter_of
 kind-20 kind raw h = pick_true _ _ (lt-ltb _ _ h)
 
@@ -126,7 +127,7 @@ module _ (k : Kind) (raw : ℕ) where
       (λ f. let l : 253 < high = leb-false _ _ c in let m : high ≡ 254 → ⊥ = eqb-false _ _ d in let o : high ≡ 255 → ⊥ = eqb-false _ _ f in
       record { holds = says_20 ((from 256).0 (omega arith)) })))))).holds
 
-  said : {r : ParameterRead} → Says k raw r → measured_as k raw ≡ r
+  said : {r : Result Measured Refusal} → Says k raw r → measured_as k raw ≡ r
   unfolding measured_as in_range
   said (says_value u h) = high_value k raw high (le_of_suc-le-suc ((below 251).1 u)) ∙ pick-false _ _ (le-ltb _ _ h)
   said (says_beyond_range u h) = high_value k raw high (le_of_suc-le-suc ((below 251).1 u)) ∙ beyond-range k raw h
@@ -137,7 +138,7 @@ module _ (k : Kind) (raw : ℕ) where
   said (says_20 l) = high-20 k raw high ((from 256).1 l)
 
 -- of every kind of the table, and of every raw number
-pub says-exactly : (kind raw : ℕ) → kind ≤ 7 → (r : ParameterRead) → parameter_of kind raw ≡ r ↔ Says (kind_of kind) raw r
+pub says-exactly : (kind raw : ℕ) → kind ≤ 7 → (r : Result Measured Refusal) → parameter_of kind raw ≡ r ↔ Says (kind_of kind) raw r
 unfolding parameter_of
 says-exactly kind raw h r =
     let of-kind : parameter_of kind raw ≡ measured_as (kind_of kind) raw = pick-false _ _ (le-ltb _ _ h) in

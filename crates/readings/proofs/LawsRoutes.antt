@@ -7,37 +7,32 @@ use native.Mathlib.Decide.{dec_lt}
 use native.Mathlib.Omega.{arith}
 use borrow.Author.Tests.{ltb-true, eqb-true, lt-ltb, eq-eqb}
 use lib.Dec.{eqb}
+use Rattle.std.specs.Prelude.{Option, Some, None, Ok, Err}
 use Rattle.identifiers.specs.Choice.{pick, either}
 use Rattle.identifiers.specs.Refusals.{refusal}
 use Rattle.identifiers.specs.Identifiers.{fields_of, frame_passing, target_of}
 use Rattle.identifiers.specs.declared.refusal.Refusal.{Refusal}
 use Rattle.identifiers.specs.declared.identifier.Identifier.{Identifier}
-use Rattle.identifiers.specs.declared.identifier.IdentifierRead.TheVariants as read
 use Rattle.identifiers.proofs.LawsChoice.{pick_true, pick-false, so, both_true, left-holds, right-holds}
 use Rattle.identifiers.proofs.LawsIdentifiers.{fields-are, reserved-is, target-destination, target-group, target-same}
 use Rattle.readings.specs.declared.position.Position.{Position}
-use Rattle.readings.specs.declared.position.Vehicle.{Vehicle}
-use Rattle.readings.specs.declared.position.Vehicle.TheVariants.{At, NoVehicle}
 use Rattle.readings.specs.declared.routing.Side.{Side}
 use Rattle.readings.specs.declared.routing.Side.TheVariants.{Predecessor, Successor}
-use Rattle.readings.specs.declared.routing.Onward.{Onward}
-use Rattle.readings.specs.declared.routing.Onward.TheVariants.{Nowhere, ToPredecessor, ToSuccessor}
-use Rattle.readings.specs.declared.routing.Routed.TheVariants.{Passed, Neither, Refused}
 use Rattle.readings.specs.Positions.{place_of, address_of, global, position_of}
 use Rattle.readings.specs.Routes.{own_position, comes_from, named, onward_of, passage, routed_from, routed_by, routed_read, routed_at, route_of, ComesFrom, Named, to_own, to_all, to_group, Keeps}
 
 -- ---- the route of a frame whose fields were read
 module _ (side : Side) (own : Position) (successor : Bool) (i : Identifier) where
-  pub from-none : position_of i.source ≡ NoVehicle → routed_by side own successor i ≡ Neither
+  pub from-none : position_of i.source ≡ None → routed_by side own successor i ≡ None
   unfolding routed_by routed_from
   from-none h = ap (routed_from side own successor i) h
 
-  pub from_wrong : (p : Position) → position_of i.source ≡ At p → comes_from side (place_of own) successor (place_of p) ≡ false → routed_by side own successor i ≡ Neither
+  pub from_wrong : (p : Position) → position_of i.source ≡ Some p → comes_from side (place_of own) successor (place_of p) ≡ false → routed_by side own successor i ≡ None
   unfolding routed_by routed_from
   from_wrong p h k = ap (routed_from side own successor i) h ∙ pick-false _ _ k
 
-  pub from-right : (p : Position) → position_of i.source ≡ At p → comes_from side (place_of own) successor (place_of p) ≡ true
-      → routed_by side own successor i ≡ Passed (passage side own successor i)
+  pub from-right : (p : Position) → position_of i.source ≡ Some p → comes_from side (place_of own) successor (place_of p) ≡ true
+      → routed_by side own successor i ≡ Some (passage side own successor i)
   unfolding routed_by routed_from
   from-right p h k = ap (routed_from side own successor i) h ∙ pick_true _ _ k
 
@@ -91,34 +86,34 @@ module _ (own : Position) (n : ℕ) where
 
 -- ---- one law a rung: 1, then what the frame's reader refuses, else the route
 module _ (side : Side) (own : ℕ) (successor : Bool) (number count : ℕ) where
-  pub route-1 : own_position own successor ≡ NoVehicle → route_of side own successor number count ≡ Refused (refusal 1)
+  pub route-1 : own_position own successor ≡ None → route_of side own successor number count ≡ Err (refusal 1)
   unfolding route_of routed_at
   route-1 h = ap (routed_at side successor _) h
 
-  pub route-refused : (p : Position) (why : Refusal) → own_position own successor ≡ At p → frame_passing number count ≡ read.Refused why → route_of side own successor number count ≡ Refused why
+  pub route-refused : (p : Position) (why : Refusal) → own_position own successor ≡ Some p → frame_passing number count ≡ Err why → route_of side own successor number count ≡ Err why
   unfolding route_of routed_at routed_read
   route-refused p why h k = ap (routed_at side successor (frame_passing number count)) h ∙ ap (routed_read side p successor) k
 
-  pub route-read : (p : Position) (i : Identifier) → own_position own successor ≡ At p → frame_passing number count ≡ read.Fields i
-      → route_of side own successor number count ≡ routed_by side p successor i
+  pub route-read : (p : Position) (i : Identifier) → own_position own successor ≡ Some p → frame_passing number count ≡ Ok i
+      → route_of side own successor number count ≡ Ok (routed_by side p successor i)
   unfolding route_of routed_at routed_read
   route-read p i h k = ap (routed_at side successor (frame_passing number count)) h ∙ ap (routed_read side p successor) k
 
 -- ---- "sent on unchanged to the other side where a neighbour exists (the predecessor always does)"
-pub sent-on : (onward_of Predecessor true ≡ ToSuccessor) × ((onward_of Predecessor false ≡ Nowhere) × ((successor : Bool) → onward_of Successor successor ≡ ToPredecessor))
+pub sent-on : (onward_of Predecessor true ≡ Some Successor) × ((onward_of Predecessor false ≡ None) × ((successor : Bool) → onward_of Successor successor ≡ Some Predecessor))
 unfolding onward_of pick
 sent-on = (refl, (refl, λ successor. refl))
 
 -- ---- a frame is never sent back to the side it came from
-abbrev pub back : Side → Onward
-back Predecessor = ToPredecessor
-back Successor = ToSuccessor
+abbrev pub back : Side → Option Side
+back Predecessor = Some Predecessor
+back Successor = Some Successor
 
 pub never_back : (side : Side) (successor : Bool) → onward_of side successor ≡ back side → ⊥
 unfolding onward_of pick
-never_back Predecessor true e = let z : ◌≡◌ {A = ℕ} 0 1 = cc in omega arith
-never_back Predecessor false e = let z : ◌≡◌ {A = ℕ} 0 1 = cc in omega arith
-never_back Successor successor e = let z : ◌≡◌ {A = ℕ} 0 1 = cc in omega arith
+never_back Predecessor true e = cc
+never_back Predecessor false e = cc
+never_back Successor successor e = cc
 
 -- ---- "Priority is ignored on receipt"
 abbrev pub with_priority : ℕ → Identifier → Identifier
@@ -128,6 +123,6 @@ pub priority-ignored : (side : Side) (own : Position) (successor : Bool) (i : Id
 unfolding routed_by routed_from passage
 priority-ignored side own successor i p = go (position_of i.source)
   where
-    go : (v : Vehicle) → routed_from side own successor (with_priority p i) v ≡ routed_from side own successor i v
-    go (At q) = rw (target-same (with_priority p i) i refl refl)
-    go NoVehicle = refl
+    go : (v : Option Position) → routed_from side own successor (with_priority p i) v ≡ routed_from side own successor i v
+    go (Some q) = rw (target-same (with_priority p i) i refl refl)
+    go None = refl

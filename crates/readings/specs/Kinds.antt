@@ -1,6 +1,8 @@
 -- The table of kinds (document 01, "Readings"; 003).
-use Rattle.std.specs.Prelude.{List, [], ◌∷◌, ℕ, ◌*◌, ◌/◌, ◌^◌, ◌<◌, eqb, ℤ, pos, neg_ℤ, ◌+ℤ◌, ◌*ℤ◌, get_or}
+use Rattle.std.specs.Prelude.{List, [], ◌∷◌, ℕ, ◌*◌, ◌/◌, ◌^◌, ◌<◌, eqb, ltb, ℤ, pos, neg_ℤ, ◌+ℤ◌, ◌*ℤ◌, get_or, Result, Ok, Err}
 use Rattle.identifiers.specs.Choice.{pick}
+use Rattle.identifiers.specs.Refusals.{refusal}
+use Rattle.identifiers.specs.declared.refusal.Refusal.{Refusal}
 use Rattle.readings.specs.declared.kind.Kind.{Kind}
 use Rattle.readings.specs.Fractions.{PowerOfTwo}
 
@@ -22,6 +24,10 @@ kinds =
 -- of the kinds 0 to 7; no other is asked for
 unfoldable pub kind_of : ℕ → Kind
 kind_of k = get_or kinds k (record { bytes = 2; divisor = 32; below = 273; last = 64255 })
+
+-- 20 "kind over 7"
+unfoldable pub kind_numbered : ℕ → Result Kind Refusal
+kind_numbered k = pick (ltb 7 k) (Err (refusal 20)) (Ok (kind_of k))
 
 -- "Two bytes: by the high byte alike"
 unfoldable pub high_byte : ℕ → ℕ → ℕ

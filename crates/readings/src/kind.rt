@@ -1,8 +1,10 @@
 // The kinds of readings: how many bytes, the step's divisor, how far below 0 the offset lies, and the last raw number in range.
-ghost use Rattle.std.specs.Prelude.{◌≡◌, ◌*◌, ◌≤◌};
+ghost use Rattle.std.specs.Prelude.{◌≡◌, ◌*◌};
 ghost use Rattle.std.proofs.Math.IntN.{sub_ℕ};
 ghost use Rattle.readings.specs.Fractions.{fraction, PowerOfTwo};
-ghost use Rattle.readings.specs.Kinds.{kind_of, high_byte};
+ghost use Rattle.readings.specs.Kinds.{kind_numbered, high_byte};
+
+use identifiers::Refusal;
 
 #[derive(Clone, Copy)]
 pub struct Kind {
@@ -68,21 +70,26 @@ impl Kind {
         below: 273,
         last: 64255,
     };
+}
 
-    // The kind of a number 0 to 7.
-    pub fn of_number(number: u8) -> Kind
-        requires { number ≤ 7 }
-        ensures { result ≡ kind_of number }
-    {
+// Refusal 20 for a kind over 7.
+impl TryFrom<u8> for Kind {
+    type Error = Refusal;
+
+    ghost try_from_gives = { λ number kind. kind ≡ kind_numbered number };
+
+    #[tactic(auto, unfolding(crate::specs::Kinds::kind_numbered, crate::specs::Kinds::kind_of, identifiers::specs::Choice::pick))]
+    fn try_from(number: u8) -> Result<Kind, Refusal> {
         match number {
-            0 => Kind::GEAR,
-            1 => Kind::PERCENT_TORQUE,
-            2 => Kind::PERCENT_LOAD,
-            3 => Kind::SPEED_LIMIT,
-            4 => Kind::VEHICLE_SPEED,
-            5 => Kind::ENGINE_SPEED,
-            6 => Kind::REFERENCE_TORQUE,
-            _ => Kind::AMBIENT_TEMPERATURE,
+            0 => Ok(Kind::GEAR),
+            1 => Ok(Kind::PERCENT_TORQUE),
+            2 => Ok(Kind::PERCENT_LOAD),
+            3 => Ok(Kind::SPEED_LIMIT),
+            4 => Ok(Kind::VEHICLE_SPEED),
+            5 => Ok(Kind::ENGINE_SPEED),
+            6 => Ok(Kind::REFERENCE_TORQUE),
+            7 => Ok(Kind::AMBIENT_TEMPERATURE),
+            _ => Err(Refusal::NoReading),
         }
     }
 }

@@ -6,9 +6,8 @@ mod position;
 mod reading;
 mod routing;
 
-pub use position::{AddressTaken, AddressTakenTold, Position, Vehicle};
+pub use position::{AddressTakenTold, Position};
 pub use reading::{
-    Measured, ParameterRead, ParameterReadTold, Reading, TwoBits, TwoBitsRead, TwoBitsReadTold,
-    read_parameter, read_two_bits,
+    Measured, ParameterReadTold, Reading, TwoBits, TwoBitsReadTold, read_parameter, read_two_bits,
 };
-pub use routing::{Onward, Passage, Routed, RoutedTold, Side, route};
+pub use routing::{Passage, RoutedTold, Side, route};

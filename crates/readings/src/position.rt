@@ -4,7 +4,7 @@ ghost use Rattle.readings.specs.Positions.{place_of, address_of, position_at, tr
 
 use identifiers::Refusal;
 
-#[derive(Clone, Copy)]
+#[derive(Clone, Copy, Debug, PartialEq, Eq)]
 pub enum Position {
     Zero,
     One,
@@ -14,21 +14,7 @@ pub enum Position {
     Five,
 }
 
-// The vehicle of an address or of a place, where there is one.
-#[derive(Clone, Copy)]
-pub enum Vehicle {
-    At(Position),
-    NoVehicle,
-}
-
-// The own position, taken after the predecessor's address.
-#[derive(Clone, Copy)]
-pub enum AddressTaken {
-    Own(Position),
-    Refused(Refusal),
-}
-
-// The same in numbers: the refusal, 0 for none, and the own position, 0 where refused.
+// The own position taken after the predecessor's address, in numbers: the refusal, 0 for none, and the own position, 0 where refused.
 #[repr(C)]
 #[derive(Clone, Copy)]
 pub struct AddressTakenTold {
@@ -55,22 +41,22 @@ impl Position {
         Position::START
     }
 
-    pub fn of_address(address: u8) -> Vehicle
+    pub fn of_address(address: u8) -> Option<Position>
         ensures { result ≡ position_of address }
     {
         if address == Position::TOWING {
-            return Vehicle::At(Position::Zero);
+            return Some(Position::Zero);
         }
         if Position::BASE - Position::STEP < address {
-            return Vehicle::NoVehicle;
+            return None;
         }
         // Changes no answer, and saves bytes: `at` has no place past 5.
         if address < Position::Five.address() {
-            return Vehicle::NoVehicle;
+            return None;
         }
         let below = Position::BASE - address;
         if below % Position::STEP != 0 {
-            return Vehicle::NoVehicle;
+            return None;
         }
         Position::at(below / Position::STEP)
     }
@@ -85,27 +71,28 @@ impl Position {
         Position::BASE - Position::STEP * place
     }
 
-    // The position of a number 0 to 5.
-    pub fn at(place: u8) -> Vehicle
+    // The position of a number 0 to 5. Not `TryFrom`: an address is a position's number too, and the name says which one.
+    #[tactic(auto, using(crate::proofs::LawsPositions::position_past), unfolding(crate::specs::Positions::position_at))]
+    pub fn at(place: u8) -> Option<Position>
         ensures { result ≡ position_at place }
     {
         match place {
-            0 => Vehicle::At(Position::Zero),
-            1 => Vehicle::At(Position::One),
-            2 => Vehicle::At(Position::Two),
-            3 => Vehicle::At(Position::Three),
-            4 => Vehicle::At(Position::Four),
-            5 => Vehicle::At(Position::Five),
-            _ => Vehicle::NoVehicle,
+            0 => Some(Position::Zero),
+            1 => Some(Position::One),
+            2 => Some(Position::Two),
+            3 => Some(Position::Three),
+            4 => Some(Position::Four),
+            5 => Some(Position::Five),
+            _ => None,
         }
     }
 
     // The position of a number 1 to 5.
-    pub fn trailer(place: u8) -> Vehicle
+    pub fn trailer(place: u8) -> Option<Position>
         ensures { result ≡ trailer_at place }
     {
         if place == 0 {
-            return Vehicle::NoVehicle;
+            return None;
         }
         Position::at(place)
     }
@@ -113,59 +100,42 @@ impl Position {
     pub fn place(self) -> u8
         ensures { result ≡ place_of self }
     {
-        match self {
-            Position::Zero => 0,
-            Position::One => 1,
-            Position::Two => 2,
-            Position::Three => 3,
-            Position::Four => 4,
-            Position::Five => 5,
-        }
+        self as u8
     }
 
-    pub fn successor(self) -> Vehicle
+    pub fn successor(self) -> Option<Position>
         ensures { result ≡ successor_of self }
     {
         Position::at(self.place() + 1)
     }
 
-    pub fn predecessor(self) -> Vehicle
+    pub fn predecessor(self) -> Option<Position>
         ensures { result ≡ predecessor_of self }
     {
-        match self {
-            Position::Zero => Vehicle::NoVehicle,
-            Position::One => Vehicle::At(Position::Zero),
-            Position::Two => Vehicle::At(Position::One),
-            Position::Three => Vehicle::At(Position::Two),
-            Position::Four => Vehicle::At(Position::Three),
-            Position::Five => Vehicle::At(Position::Four),
-        }
+        let before = self.place().checked_sub(1)?;
+        Position::at(before)
     }
 
     // The position after that of the predecessor's SA: refusal 15 where there is none.
-    pub fn after(source: u8) -> AddressTaken
+    pub fn after(source: u8) -> Result<Position, Refusal>
         ensures { result ≡ taken_after source }
     {
-        let Vehicle::At(predecessor) = Position::of_address(source) else {
-            return AddressTaken::Refused(Refusal::NoAddress);
-        };
-        let Vehicle::At(own) = predecessor.successor() else {
-            return AddressTaken::Refused(Refusal::NoAddress);
-        };
-        AddressTaken::Own(own)
+        let predecessor = Position::of_address(source).ok_or(Refusal::NoAddress)?;
+        predecessor.successor().ok_or(Refusal::NoAddress)
     }
 }
 
-impl AddressTaken {
-    pub fn told(self) -> AddressTakenTold
-        ensures { result ≡ address_told self }
-    {
-        match self {
-            AddressTaken::Own(own) => AddressTakenTold {
+impl From<Result<Position, Refusal>> for AddressTakenTold {
+    ghost from_gives = { λ answer told. told ≡ address_told answer };
+
+    #[tactic(auto, unfolding(crate::specs::Positions::address_told))]
+    fn from(answer: Result<Position, Refusal>) -> AddressTakenTold {
+        match answer {
+            Ok(own) => AddressTakenTold {
                 refusal: 0,
                 own: own.place(),
             },
-            AddressTaken::Refused(why) => AddressTakenTold {
+            Err(why) => AddressTakenTold {
                 refusal: why.number(),
                 own: 0,
             },

@@ -6,8 +6,9 @@ ghost use Rattle.readings.specs.Readings.{without_value, in_range, measured_as, 
 use crate::kind::{Kind, high_byte, physical, whole};
 use identifiers::Refusal;
 
-// A physical value, or why there is none.
-#[derive(Clone, Copy)]
+// A physical value, or why there is none. An enum of our own: document 01 names the form, "an enum whose value case carries the f32,
+// other cases bare".
+#[derive(Clone, Copy, Debug, PartialEq)]
 pub enum Reading {
     Value(f32),
     Reserved,
@@ -17,20 +18,15 @@ pub enum Reading {
     Indicator,
 }
 
-// The reading, and beside it the raw number plus offset times divisor: 0 where there is no value.
+// The reading, and beside it the raw number plus offset times divisor: 0 where there is no value, as document 01 says, so that it stands
+// beside and not in the value's case.
 #[derive(Clone, Copy)]
 pub struct Measured {
     pub reading: Reading,
     pub whole: i32,
 }
 
-#[derive(Clone, Copy)]
-pub enum ParameterRead {
-    Read(Measured),
-    Refused(Refusal),
-}
-
-// The same in numbers: the refusal, 0 for none; the outcome, 0 value, 1 reserved, 2 error, 3 not available, 4 beyond range,
+// A reading in numbers: the refusal, 0 for none; the outcome, 0 value, 1 reserved, 2 error, 3 not available, 4 beyond range,
 // 5 indicator; the value and the whole number.
 #[repr(C)]
 #[derive(Clone, Copy)]
@@ -41,18 +37,12 @@ pub struct ParameterReadTold {
     pub whole: i32,
 }
 
-#[derive(Clone, Copy)]
+#[derive(Clone, Copy, Debug, PartialEq, Eq)]
 pub enum TwoBits {
     No,
     Yes,
     Error,
     NotAvailable,
-}
-
-#[derive(Clone, Copy)]
-pub enum TwoBitsRead {
-    Read(TwoBits),
-    Refused(Refusal),
 }
 
 // The same in numbers: the refusal, 0 for none; and 0 no, 1 yes, 2 error, 3 not available.
@@ -63,14 +53,15 @@ pub struct TwoBitsReadTold {
     pub outcome: u8,
 }
 
-fn without_value(reading: Reading) -> ParameterRead
+#[tactic(auto, unfolding(crate::specs::Readings::without_value))]
+fn without_value(reading: Reading) -> Result<Measured, Refusal>
     ensures { result ≡ without_value reading }
 {
-    ParameterRead::Read(Measured { reading, whole: 0 })
+    Ok(Measured { reading, whole: 0 })
 }
 
 // A raw number whose high byte is 0 to 250.
-fn in_range(kind: Kind, raw: u32) -> ParameterRead
+fn in_range(kind: Kind, raw: u32) -> Result<Measured, Refusal>
     requires { Sound kind }
     ensures { result ≡ in_range kind raw }
 {
@@ -79,14 +70,14 @@ fn in_range(kind: Kind, raw: u32) -> ParameterRead
     }
     let small = raw as u16;
     let value = physical(small, kind.divisor, kind.below);
-    ParameterRead::Read(Measured {
+    Ok(Measured {
         reading: Reading::Value(value),
         whole: whole(small, kind.below * kind.divisor),
     })
 }
 
 #[tactic(auto, using(crate::proofs::LawsOutcomes::measured_rungs))]
-fn measure(kind: Kind, raw: u32) -> ParameterRead
+fn measure(kind: Kind, raw: u32) -> Result<Measured, Refusal>
     requires { Sound kind }
     ensures { result ≡ measured_as kind raw }
 {
@@ -106,33 +97,34 @@ fn measure(kind: Kind, raw: u32) -> ParameterRead
     if high == 255 {
         return without_value(Reading::NotAvailable);
     }
-    ParameterRead::Refused(Refusal::NoReading)
+    Err(Refusal::NoReading)
 }
 
-// The reading of a raw number: refusal 20 for a kind over 7, or a raw number past its bytes.
-pub fn read_parameter(kind: u8, raw: u32) -> ParameterRead
+// The reading of a raw number: refusal 20 for a kind over 7, or a raw number past its bytes. The kind is a number, since `parameter_of` is
+// said of every number.
+pub fn read_parameter(kind: u8, raw: u32) -> Result<Measured, Refusal>
     ensures { result ≡ parameter_of kind raw }
 {
-    if 7 < kind {
-        return ParameterRead::Refused(Refusal::NoReading);
-    }
-    measure(Kind::of_number(kind), raw)
+    let kind = Kind::try_from(kind)?;
+    measure(kind, raw)
 }
 
-// The reading of two bits: refusal 20 over 3.
-pub fn read_two_bits(raw: u8) -> TwoBitsRead
+// The reading of two bits: refusal 20 over 3. By its own name and not `TryFrom`, since it is a reading, as that of a parameter.
+#[tactic(auto, unfolding(crate::specs::Readings::two_bits_of))]
+pub fn read_two_bits(raw: u8) -> Result<TwoBits, Refusal>
     ensures { result ≡ two_bits_of raw }
 {
     match raw {
-        0 => TwoBitsRead::Read(TwoBits::No),
-        1 => TwoBitsRead::Read(TwoBits::Yes),
-        2 => TwoBitsRead::Read(TwoBits::Error),
-        3 => TwoBitsRead::Read(TwoBits::NotAvailable),
-        _ => TwoBitsRead::Refused(Refusal::NoReading),
+        0 => Ok(TwoBits::No),
+        1 => Ok(TwoBits::Yes),
+        2 => Ok(TwoBits::Error),
+        3 => Ok(TwoBits::NotAvailable),
+        _ => Err(Refusal::NoReading),
     }
 }
 
 impl Reading {
+    // A case that carries something has no number by `as`.
     pub fn outcome(self) -> u8
         ensures { result ≡ outcome_of self }
     {
@@ -146,16 +138,14 @@ impl Reading {
         }
     }
 
+    // 0 where there is none.
+    #[tactic(auto, unfolding(crate::specs::Readings::zero))]
     pub fn value(self) -> f32
         ensures { result ≡ value_of self }
     {
         match self {
             Reading::Value(value) => value,
-            Reading::Reserved => 0.0,
-            Reading::Error => 0.0,
-            Reading::NotAvailable => 0.0,
-            Reading::BeyondRange => 0.0,
-            Reading::Indicator => 0.0,
+            _ => 0.0,
         }
     }
 }
@@ -164,30 +154,23 @@ impl TwoBits {
     pub fn number(self) -> u8
         ensures { result ≡ two_bits_number self }
     {
-        match self {
-            TwoBits::No => 0,
-            TwoBits::Yes => 1,
-            TwoBits::Error => 2,
-            TwoBits::NotAvailable => 3,
-        }
+        self as u8
     }
 }
 
-impl ParameterRead {
-    pub fn told(self) -> ParameterReadTold
-        ensures { result ≡ parameter_told self }
-    {
-        match self {
-            ParameterRead::Read(measured) => {
-                let reading = measured.reading;
-                ParameterReadTold {
-                    refusal: 0,
-                    outcome: reading.outcome(),
-                    value: reading.value(),
-                    whole: measured.whole,
-                }
-            }
-            ParameterRead::Refused(why) => ParameterReadTold {
+impl From<Result<Measured, Refusal>> for ParameterReadTold {
+    ghost from_gives = { λ answer told. told ≡ parameter_told answer };
+
+    #[tactic(auto, unfolding(crate::specs::Readings::parameter_told))]
+    fn from(answer: Result<Measured, Refusal>) -> ParameterReadTold {
+        match answer {
+            Ok(measured) => ParameterReadTold {
+                refusal: 0,
+                outcome: measured.reading.outcome(),
+                value: measured.reading.value(),
+                whole: measured.whole,
+            },
+            Err(why) => ParameterReadTold {
                 refusal: why.number(),
                 outcome: 0,
                 value: 0.0,
@@ -197,16 +180,17 @@ impl ParameterRead {
     }
 }
 
-impl TwoBitsRead {
-    pub fn told(self) -> TwoBitsReadTold
-        ensures { result ≡ two_bits_told self }
-    {
-        match self {
-            TwoBitsRead::Read(bits) => TwoBitsReadTold {
+impl From<Result<TwoBits, Refusal>> for TwoBitsReadTold {
+    ghost from_gives = { λ answer told. told ≡ two_bits_told answer };
+
+    #[tactic(auto, unfolding(crate::specs::Readings::two_bits_told))]
+    fn from(answer: Result<TwoBits, Refusal>) -> TwoBitsReadTold {
+        match answer {
+            Ok(bits) => TwoBitsReadTold {
                 refusal: 0,
                 outcome: bits.number(),
             },
-            TwoBitsRead::Refused(why) => TwoBitsReadTold {
+            Err(why) => TwoBitsReadTold {
                 refusal: why.number(),
                 outcome: 0,
             },

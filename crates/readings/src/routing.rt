@@ -2,38 +2,23 @@
 ghost use Rattle.std.specs.Prelude.{◌≡◌, length};
 ghost use Rattle.readings.specs.Routes.{own_position, comes_from, named, onward_of, routed_by, route_of, routed_told, onward_number};
 
-use crate::position::{Position, Vehicle};
-use identifiers::{Identifier, IdentifierRead, Refusal, Target};
+use crate::position::Position;
+use identifiers::{Identifier, Refusal, Target};
 
-// The neighbour from which a frame came.
-#[derive(Clone, Copy)]
+// A neighbour: that from which a frame came, or to which it is sent on, and then told by its number.
+#[derive(Clone, Copy, Debug, PartialEq, Eq)]
 pub enum Side {
-    Predecessor,
-    Successor,
+    Predecessor = 1,
+    Successor = 2,
 }
 
-// The neighbour to which a frame is sent on.
-#[derive(Clone, Copy)]
-pub enum Onward {
-    Nowhere,
-    ToPredecessor,
-    ToSuccessor,
-}
-
-#[derive(Clone, Copy)]
+#[derive(Clone, Copy, Debug, PartialEq, Eq)]
 pub struct Passage {
     pub kept: bool,
-    pub onward: Onward,
+    pub onward: Option<Side>,
 }
 
-#[derive(Clone, Copy)]
-pub enum Routed {
-    Passed(Passage),
-    Neither,
-    Refused(Refusal),
-}
-
-// The same in numbers: the refusal, 0 for none; kept; and sent on, 0 nowhere, 1 to the predecessor, 2 to the successor.
+// The route in numbers: the refusal, 0 for none; kept; and sent on, 0 nowhere, 1 to the predecessor, 2 to the successor.
 #[repr(C)]
 #[derive(Clone, Copy)]
 pub struct RoutedTold {
@@ -42,12 +27,12 @@ pub struct RoutedTold {
     pub onward: u8,
 }
 
-// The own position, where it is 1 to 5 and no successor stands behind position 5.
-fn own_position(own: u8, successor: bool) -> Vehicle
+// The own position, where it is 1 to 5 and no successor stands behind position 5. Both stand apart, as `Routes.route_of` and C have them.
+fn own_position(own: u8, successor: bool) -> Option<Position>
     ensures { result ≡ own_position own successor }
 {
     if (own == 5) & successor {
-        return Vehicle::NoVehicle;
+        return None;
     }
     Position::trailer(own)
 }
@@ -73,86 +58,73 @@ fn names(own: u8, target: Target) -> bool
 }
 
 // To the other side, where a neighbour exists: the predecessor always does.
-fn onward_of(side: Side, successor: bool) -> Onward
+#[tactic(auto, unfolding(crate::specs::Routes::onward_of, identifiers::specs::Choice::pick))]
+fn onward_of(side: Side, successor: bool) -> Option<Side>
     ensures { result ≡ onward_of side successor }
 {
     match side {
-        Side::Predecessor => {
-            if successor {
-                Onward::ToSuccessor
-            } else {
-                Onward::Nowhere
-            }
-        }
-        Side::Successor => Onward::ToPredecessor,
+        Side::Predecessor => successor.then_some(Side::Successor),
+        Side::Successor => Some(Side::Predecessor),
     }
 }
 
-// A frame that passes: with R set it is sent on all the same, and never kept.
-fn routed_by(side: Side, own: Position, successor: bool, fields: Identifier) -> Routed
+// A frame that passes, where it is not neither kept nor sent on: with R set it is sent on all the same, and never kept.
+fn routed_by(side: Side, own: Position, successor: bool, fields: Identifier) -> Option<Passage>
     ensures { result ≡ routed_by side own successor fields }
 {
-    let Vehicle::At(source) = Position::of_address(fields.source) else {
-        return Routed::Neither;
-    };
-    if comes_from(side, own.place(), successor, source.place()) {
-        Routed::Passed(Passage {
-            kept: (fields.reserved == 0) & names(own.address(), fields.target()),
-            onward: onward_of(side, successor),
-        })
-    } else {
-        Routed::Neither
+    let source = Position::of_address(fields.source)?;
+    if !comes_from(side, own.place(), successor, source.place()) {
+        return None;
     }
+    Some(Passage {
+        kept: (fields.reserved == 0) & names(own.address(), fields.target()),
+        onward: onward_of(side, successor),
+    })
 }
 
-// The route of a frame from a side: refusal 1 for the own position, then 2 and 3 of the frame.
-pub fn route(side: Side, own: u8, successor: bool, number: u32, data: &[u8]) -> Routed
+// The route of a frame from a side, none where it is neither kept nor sent on: refusal 1 for the own position, then 2 and 3 of the frame.
+pub fn route(
+    side: Side,
+    own: u8,
+    successor: bool,
+    number: u32,
+    data: &[u8],
+) -> Result<Option<Passage>, Refusal>
     ensures { result ≡ route_of side own successor number (length «data».now) }
 {
-    let Vehicle::At(position) = own_position(own, successor) else {
-        return Routed::Refused(Refusal::RulesBroken);
-    };
+    let position = own_position(own, successor).ok_or(Refusal::RulesBroken)?;
+    // Document 01 names the form: taken apart by let .. else, and the refusal goes out at once.
     let answer = Identifier::of_passing_frame(number, data);
-    let IdentifierRead::Fields(fields) = answer else {
-        let IdentifierRead::Refused(why) = answer else {
-            return Routed::Neither;
-        };
-        return Routed::Refused(why);
+    let Ok(fields) = answer else {
+        return Err(answer.unwrap_err());
     };
-    routed_by(side, position, successor, fields)
+    Ok(routed_by(side, position, successor, fields))
 }
 
-impl Onward {
-    pub fn number(self) -> u8
-        ensures { result ≡ onward_number self }
-    {
-        match self {
-            Onward::Nowhere => 0,
-            Onward::ToPredecessor => 1,
-            Onward::ToSuccessor => 2,
-        }
-    }
+// 0 nowhere.
+fn onward_number(onward: Option<Side>) -> u8
+    ensures { result ≡ onward_number onward }
+{
+    onward.map_or(0, |side| side as u8)
 }
 
-impl Routed {
-    pub fn told(self) -> RoutedTold
-        ensures { result ≡ routed_told self }
-    {
-        match self {
-            Routed::Passed(passage) => {
-                let onward = passage.onward;
-                RoutedTold {
-                    refusal: 0,
-                    kept: passage.kept,
-                    onward: onward.number(),
-                }
-            }
-            Routed::Neither => RoutedTold {
+impl From<Result<Option<Passage>, Refusal>> for RoutedTold {
+    ghost from_gives = { λ answer told. told ≡ routed_told answer };
+
+    #[tactic(auto, unfolding(crate::specs::Routes::routed_told))]
+    fn from(answer: Result<Option<Passage>, Refusal>) -> RoutedTold {
+        match answer {
+            Ok(Some(passage)) => RoutedTold {
+                refusal: 0,
+                kept: passage.kept,
+                onward: onward_number(passage.onward),
+            },
+            Ok(None) => RoutedTold {
                 refusal: 0,
                 kept: false,
                 onward: 0,
             },
-            Routed::Refused(why) => RoutedTold {
+            Err(why) => RoutedTold {
                 refusal: why.number(),
                 kept: false,
                 onward: 0,

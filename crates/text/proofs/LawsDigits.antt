@@ -1,13 +1,15 @@
 -- Laws of digits as they are written: a number in decimal by the places that are left, how long it is, one digit more, and where the newlines are.
 use mathlib.Core.Path.{◌≡◌, refl, ap, ◌∙◌}
-use mathlib.Core.Bool.{Bool, true, false}
+use mathlib.Core.Bool.{Bool, true, false, cond}
 use mathlib.Core.List.{List, [], ◌∷◌, ◌++◌}
-use Prim.Native.Nat.{ℕ, zero, suc, ◌+◌, ◌-◌, ◌*◌, ◌/◌, ◌%◌, ◌^◌, ◌≤◌, ◌<◌}
+use Prim.Native.Nat.{ℕ, zero, suc, ◌+◌, ◌-◌, ◌*◌, ◌/◌, ◌%◌, ◌^◌, ◌≤◌, ◌<◌, max}
 use native.Mathlib.Nat.{pow-suc}
 use native.Mathlib.Omega.{arith}
 use borrow.Author.Tests.{ltb-true, ltb-false, lt-ltb, le-ltb, ne_eqb}
-use lib.Dec.{ltb}
+use lib.Dec.{eqb, ltb}
 use lib.ListN.{length, length-append}
+use Rattle.std.specs.List.{count_by}
+use Rattle.std.proofs.lemmas.List.Recursion.{is_count_by}
 use Rattle.identifiers.specs.Below.{list_below}
 use Rattle.identifiers.specs.Choice.{pick}
 use Rattle.identifiers.proofs.LawsBelow.{list-none, list-suc}
@@ -92,6 +94,13 @@ length-one n l = ap length (decimal-one n l)
 pub length_more : (n : ℕ) → 10 ≤ n → length (decimal n) ≡ length (decimal (n / 10)) + 1
 length_more n l = ap length (decimal-more n l) ∙ length-append (decimal (n / 10)) ((48 + n % 10) ∷ [])
 
+-- a number has one place more than the largest power of ten that is not above it, or above 1
+pub length_is : (n k : ℕ) → 10 ^ k ≤ max n 1 → n < 10 * 10 ^ k → length (decimal n) ≡ k + 1
+length_is n zero h l = length-one n (omega arith)
+length_is n (suc k) h l =
+    let p : 10 ^ suc k ≡ 10 ^ k * 10 = pow-suc 10 k in
+    omega (arith, p, length_more n (omega (arith, p, below_power k)), length_is (n / 10) k (omega (arith, p, below_power k)) (omega (arith, p)))
+
 -- no number is without a digit
 pub length_some : (n : ℕ) → 1 ≤ length (decimal n)
 length_some n = by_size (ltb n 10) refl
@@ -119,6 +128,15 @@ value-append base n (x ∷ xs) b = value-append base (n * base + digit_value x) 
 pub newlines-append : (xs ys : List ℕ) → newlines (xs ++ ys) ≡ newlines xs + newlines ys
 newlines-append [] ys = omega arith
 newlines-append (x ∷ xs) ys = omega (arith, newlines-append xs ys)
+
+-- as code counts them
+pub newlines_count : (text : List ℕ) → newlines text ≡ count_by (λ b. eqb b 10) text
+unfolding pick
+newlines_count = is_count_by newlines (λ b. eqb b 10) refl (λ b text. one-more (eqb b 10) (newlines text))
+  where
+    one-more : (test : Bool) (n : ℕ) → pick test 1 0 + n ≡ cond test (1 + n) n
+    one-more true n = refl
+    one-more false n = omega arith
 
 -- a byte other than 10 ends no line
 pub not-newline : (b : ℕ) → (b ≡ 10 → ⊥) → newlines (b ∷ []) ≡ 0

@@ -1,11 +1,11 @@
 -- Laws of texts put where they fit: what room says, what follows where there is room and where there is none, and digits put from the last one on.
-use mathlib.Core.Path.{◌≡◌, refl, sym, ap, ◌∙◌}
+use mathlib.Core.Path.{◌≡◌, refl, sym, ap, ap₂, ◌∙◌}
 use mathlib.Core.Bool.{Bool, true, false}
 use mathlib.Core.List.{List, [], ◌∷◌, ◌++◌}
-use Prim.Native.Nat.{ℕ, ◌+◌, ◌-◌, ◌/◌, ◌%◌, ◌≤◌, ◌<◌}
+use Prim.Native.Nat.{ℕ, ◌+◌, ◌/◌, ◌%◌, ◌≤◌, ◌<◌}
 use native.Mathlib.Omega.{arith}
-use borrow.Author.Tests.{leb-true, leb-false, le-leb, lt-leb}
-use lib.Dec.{leb}
+use borrow.Author.Tests.{leb-true, leb-false, le-leb, lt-leb, ltb-true, ltb-false}
+use lib.Dec.{leb, ltb}
 use lib.ListN.{length, take, set}
 use lib.Seq.{set_comm}
 use Rattle.identifiers.specs.Bytes.{written, Puts}
@@ -25,7 +25,7 @@ module _ (buffer : List ℕ) (at count : ℕ) where
   unfolding fits
   no_room h = lt-leb _ _ h
 
-  -- what the code's test says of what `room` answered
+  -- what a test of it says
   pub room-is : {r : Bool} → r ≡ fits buffer at count → r ≡ true → at + count ≤ length buffer
   unfolding fits
   room-is {r} e t = leb-true _ _ (sym e ∙ t)
@@ -33,15 +33,6 @@ module _ (buffer : List ℕ) (at count : ℕ) where
   pub room-is-not : {r : Bool} → r ≡ fits buffer at count → r ≡ false → length buffer < at + count
   unfolding fits
   room-is-not {r} e t = leb-false _ _ (sym e ∙ t)
-
-  -- what `room` asks: no sum that passes the largest number
-  pub room-asked : count ≤ length buffer → leb at (length buffer - count) ≡ fits buffer at count
-  unfolding fits
-  room-asked h = by-room (leb (at + count) (length buffer)) refl
-    where
-      by-room : (t : Bool) → leb (at + count) (length buffer) ≡ t → leb at (length buffer - count) ≡ t
-      by-room true e = let l : at + count ≤ length buffer = leb-true _ _ e in le-leb at (length buffer - count) (omega arith)
-      by-room false e = let l : length buffer < at + count = leb-false _ _ e in lt-leb at (length buffer - count) (omega arith)
 
 -- ---- put where it fits
 pub room-behind : (k n : ℕ) {before bytes after : List ℕ} {at end : ℕ} → length bytes ≤ k → at + (k + n) ≤ length before → Puts before at bytes end after → end + n ≤ length after
@@ -77,8 +68,8 @@ module _ {before text after : List ℕ} {at end : ℕ} where
   unfolding fits
   if-fits-within h p = rw p.ends (by-test {P = λ (e : ℕ). e ≤ length before} (leb (at + length text) (length before)) (λ e. record { holds = leb-true _ _ e }) (λ e. record { holds = h })).holds
 
-pub puts-nothing : (before : List ℕ) (at : ℕ) (text : List ℕ) → length before < at + length text → PutsIfFits before at text at before
-puts-nothing before at text h = let f = no_room before at (length text) h in record { ends = passed _ f refl; holds = passed _ f refl }
+pub puts_nothing : (before : List ℕ) (at : ℕ) (text : List ℕ) → (at + length text ≤ length before → ⊥) → PutsIfFits before at text at before
+puts_nothing before at text h = let f = no_room before at (length text) (omega arith) in record { ends = passed _ f refl; holds = passed _ f refl }
 
 -- ---- from the last byte on
 -- the first byte, then the others
@@ -101,38 +92,37 @@ written_last buffer at xs d =
     ∙ (puts-byte (written buffer at xs) (at + length xs) d).holds
     ∙ sym (written-append buffer at xs (d ∷ []))
 
--- a loop that puts a number's digits from the last one on: with the digits of the rest, up to the place that is last now, all stand
-pub record ToPut (before : List ℕ) (at number : ℕ) (buffer : List ℕ) (rest last : ℕ) : Type 0 where
-  pub ends : last + 1 ≡ at + length (decimal rest)
-  pub gives : written buffer at (decimal rest) ≡ written before at (decimal number)
+-- a loop that puts a number's digits from the last one on: with the digits of the rest, up to the place behind them, all stand; or all stand already
+pub data ToPut (before : List ℕ) (at number : ℕ) (buffer : List ℕ) (rest end : ℕ) : Type 0 where
+  digits_left : end ≡ at + length (decimal rest) → written buffer at (decimal rest) ≡ written before at (decimal number) → ToPut before at number buffer rest end
+  none_left : end ≡ at → buffer ≡ written before at (decimal number) → ToPut before at number buffer rest end
 
-pub to-put-first : (before : List ℕ) (at number : ℕ) {places : ℕ} → places ≡ length (decimal number) → ToPut before at number before number (at + places - 1)
-to-put-first before at number e = record { ends = omega (arith, length_some number); gives = refl }
+pub to-put-more : {before : List ℕ} {at number : ℕ} {buffer : List ℕ} {rest end : ℕ} (place : ℕ) → at ≤ place → end ≡ place + 1 → ToPut before at number buffer rest end
+    → ToPut before at number (set buffer place (48 + rest % 10)) (rest / 10) place
+to-put-more place l p (none_left e g) = absurd (omega arith)
+to-put-more {before} {at} {number} {buffer} {rest} place l p (digits_left e g) = by-size (ltb rest 10) refl
+  where
+    by-size : (t : Bool) → ltb rest 10 ≡ t → ToPut before at number (set buffer place (48 + rest % 10)) (rest / 10) place
+    by-size true q =
+        let h : rest < 10 = ltb-true _ _ q in
+        let here : place ≡ at = omega (arith, length-one rest h) in
+        let same : rest % 10 ≡ rest = omega arith in
+        none_left here (
+        ap₂ (λ (k d : ℕ). set buffer k (48 + d)) here same
+        ∙ (puts-byte buffer at (48 + rest)).holds
+        ∙ ap (written buffer at) (sym (decimal-one rest h))
+        ∙ g
+        )
+    by-size false q =
+        let h : 10 ≤ rest = ltb-false _ _ q in
+        let here : place ≡ at + length (decimal (rest / 10)) = omega (arith, length_more rest h) in
+        digits_left here (
+        ap (λ (k : ℕ). written (set buffer k (48 + rest % 10)) at (decimal (rest / 10))) here
+        ∙ written_last buffer at (decimal (rest / 10)) (48 + rest % 10)
+        ∙ ap (written buffer at) (sym (decimal-more rest h))
+        ∙ g
+        )
 
-module _ {before : List ℕ} {at number : ℕ} {buffer : List ℕ} {rest last : ℕ} (t : ToPut before at number buffer rest last) where
-  pub to-put-length : length buffer ≡ length before
-  to-put-length = sym (length-written buffer at (decimal rest)) ∙ ap length t.gives ∙ length-written before at (decimal number)
-
-  -- a rest of two digits or more has another place before the last
-  pub to-put-some : 10 ≤ rest → 1 ≤ last
-  to-put-some h = omega (arith, t.ends, length_more rest h, length_some (rest / 10))
-
-  pub to-put-more : 10 ≤ rest → ToPut before at number (set buffer last (48 + rest % 10)) (rest / 10) (last - 1)
-  to-put-more h =
-      let some = length_some (rest / 10) in
-      let e : last ≡ at + length (decimal (rest / 10)) = omega (arith, t.ends, length_more rest h) in
-      record {
-        ends = omega arith;
-        gives = ap (λ (k : ℕ). written (set buffer k (48 + rest % 10)) at (decimal (rest / 10))) e
-            ∙ written_last buffer at (decimal (rest / 10)) (48 + rest % 10)
-            ∙ ap (written buffer at) (sym (decimal-more rest h))
-            ∙ t.gives;
-      }
-
-  pub to-put-done : rest < 10 → set buffer last (48 + rest) ≡ written before at (decimal number)
-  to-put-done h =
-      let e : last ≡ at = omega (arith, t.ends, length-one rest h) in
-      ap (λ (k : ℕ). set buffer k (48 + rest)) e
-      ∙ (puts-byte buffer at (48 + rest)).holds
-      ∙ ap (written buffer at) (sym (decimal-one rest h))
-      ∙ t.gives
+pub to-put-done : {before : List ℕ} {at number : ℕ} {buffer : List ℕ} {rest end : ℕ} → end ≤ at → ToPut before at number buffer rest end → buffer ≡ written before at (decimal number)
+to-put-done l (none_left e g) = g
+to-put-done {rest = rest} l (digits_left e g) = absurd (omega (arith, length_some rest))

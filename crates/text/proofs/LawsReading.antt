@@ -1,4 +1,6 @@
 -- Laws of digits read: a loop that reads digit after digit, and how large a number so many digits say.
+use Rattle.std.specs.Prelude.{Option, Some, None, Result, Ok, Err}
+use Rattle.std.specs.Result.{OkIff, result_ok}
 use mathlib.Core.Path.{◌≡◌, refl, sym, ap, ap₂, ◌∙◌}
 use mathlib.Core.Bool.{Bool, true, false}
 use mathlib.Core.List.{List, [], ◌∷◌, ◌++◌, append-nil, append_assoc}
@@ -14,7 +16,6 @@ use Rattle.identifiers.specs.Choice.{both}
 use Rattle.identifiers.proofs.LawsChoice.{taken, passed, stop, both_false, both_true, both-assoc, true-after, by-test}
 use Rattle.text.specs.Digits.{decimal_in, decimal, hex_digit, hex, digit_value, is_digit, value_from}
 use Rattle.text.specs.Reading.{all_digits, is_number, digits_read}
-use Rattle.text.specs.declared.reading.DigitsRead.TheVariants.{Number, NoNumber}
 use Rattle.text.proofs.LawsDigits.{decimal-one, decimal-more}
 use Rattle.text.proofs.LawsValue.{digit-decimal, digit-says, is-digit, no_digit, Worth, decimal_digit, capital-letter, small-letter, any-other, worth}
 
@@ -28,23 +29,23 @@ module _ (base places : ℕ) (text : List ℕ) where
   unfolding is_number
   number_is e = let t = both_true _ _ e in let u = both_true _ _ t.1 in (eqb-true _ _ t.0, u.0, ltb-true _ _ u.1)
 
-  pub number_read : is_number base places text ≡ true → Number (value_from base 0 text) ≡ digits_read base places text
+  pub number_read : is_number base places text ≡ true → Some (value_from base 0 text) ≡ digits_read base places text
   unfolding digits_read
   number_read e = taken _ e refl
 
-  pub none_read : is_number base places text ≡ false → NoNumber ≡ digits_read base places text
+  pub none_read : is_number base places text ≡ false → None ≡ digits_read base places text
   unfolding digits_read
   none_read e = passed _ e refl
 
-  pub other_length : (length text ≡ places → ⊥) → NoNumber ≡ digits_read base places text
+  pub other_length : (length text ≡ places → ⊥) → None ≡ digits_read base places text
   unfolding is_number
   other_length h = none_read (sym (stop _ (ne_eqb _ _ h)))
 
-  pub other_byte : all_digits base text ≡ false → NoNumber ≡ digits_read base places text
+  pub other_byte : all_digits base text ≡ false → None ≡ digits_read base places text
   unfolding is_number
   other_byte e = none_read (ap (both (eqb (length text) places)) (sym (stop _ e)) ∙ both_false _)
 
-  pub too_large : 2 ^ 32 ≤ value_from base 0 text → NoNumber ≡ digits_read base places text
+  pub too_large : 2 ^ 32 ≤ value_from base 0 text → None ≡ digits_read base places text
   unfolding is_number
   too_large h = none_read (ap (λ (b : Bool). both (eqb (length text) places) (both (all_digits base text) b)) (le-ltb _ _ h) ∙ ap (both (eqb (length text) places)) (both_false _) ∙ both_false _)
 
@@ -72,20 +73,29 @@ module _ {base : ℕ} {text : List ℕ} {number i digit : ℕ} (r : ReadSoFar ba
         digits = r.digits ∙ rw (drop-cons text i 0 l, is-digit base (get_or text i 0) e h, add-one);
       }
 
-  pub reading-stop : (places : ℕ) → base ≤ digit → NoNumber ≡ digits_read base places text
+  pub reading-stop : (places : ℕ) → base ≤ digit → None ≡ digits_read base places text
   unfolding all_digits
   reading-stop places h = other_byte base places text (r.digits ∙ rw (drop-cons text i 0 l) (sym (stop _ (no_digit base (get_or text i 0) e h))))
 
+-- what a conversion says of the number that it was given, as `.ok()?` asks it
+pub converted : {E : Type 0} (r : Result ℕ E) (P : Type 0) (m : ℕ) {o : Option ℕ} {n : ℕ} → OkIff r P m → o ≡ result_ok r → o ≡ Some n → n ≡ m
+converted (Ok k) P m {n = n} h e w = let q : Some k ≡ Some n = sym e ∙ w in let v = h.1 in cc
+converted (Err k) P m {n = n} h e w = let q : None ≡ Some n = sym e ∙ w in cc
+
+pub not_converted : {E : Type 0} (r : Result ℕ E) (P : Type 0) (m : ℕ) {o : Option ℕ} → OkIff r P m → o ≡ result_ok r → o ≡ None → P → ⊥
+not_converted (Ok k) P m h e w = let q : Some k ≡ None = sym e ∙ w in cc
+not_converted (Err k) P m h e w = h
+
 module _ {base : ℕ} {text : List ℕ} {number i : ℕ} (r : ReadSoFar base text number i) where
-  pub reading-large : (places : ℕ) → 1 ≤ base → 2 ^ 32 ≤ number → NoNumber ≡ digits_read base places text
+  pub reading-large : (places : ℕ) → 1 ≤ base → 2 ^ 32 ≤ number → None ≡ digits_read base places text
   reading-large places b h = too_large base places text (omega (arith, r.says, value_grows base number (drop i text) b))
 
-  pub reading-done : (places : ℕ) → length text ≡ places → length text ≤ i → number < 2 ^ 32 → Number number ≡ digits_read base places text
+  pub reading-done : (places : ℕ) → length text ≡ places → length text ≤ i → number < 2 ^ 32 → Some number ≡ digits_read base places text
   unfolding value_from all_digits
   reading-done places l h s =
       let value : value_from base 0 text ≡ number = r.says ∙ rw (drop_of_length-le text h) in
       let digits : all_digits base text ≡ true = r.digits ∙ rw (drop_of_length-le text h) in
-      ap Number (sym value) ∙ number_read base places text (is-number base places text l digits (omega arith))
+      ap Some (sym value) ∙ number_read base places text (is-number base places text l digits (omega arith))
 
 -- ---- the digits that are written
 pub digits_append : (base : ℕ) (xs ys : List ℕ) → all_digits base xs ≡ true → all_digits base ys ≡ true → all_digits base (xs ++ ys) ≡ true

@@ -1,14 +1,13 @@
 -- Laws of the value of a digit: what each of the 22 digits is worth, that no other byte is worth less than 16, and that the code's arithmetic gives it.
 use mathlib.Core.Path.{◌≡◌, refl, sym, ap, ◌∙◌}
 use mathlib.Core.Bool.{Bool, true, false, ◌&&◌, false≢true}
-use mathlib.Core.Logic.{⊎_elim}
-use Prim.Native.Nat.{ℕ, zero, suc, ◌+◌, ◌-◌, ◌%◌, ◌≤◌, ◌<◌}
-use native.Mathlib.Nat.{eq-or-lt_of_le}
+use Prim.Native.Nat.{ℕ, ◌+◌, ◌-◌, ◌%◌, ◌≤◌, ◌<◌}
 use native.Mathlib.Omega.{arith}
 use borrow.Author.Tests.{ltb-true, ltb-false, lt-ltb, le-ltb, leb-true, le-leb, lt-leb, eqb-true}
 use lib.Bits.{bit_or}
 use lib.Dec.{leb, ltb, eqb}
 use Rattle.identifiers.specs.Choice.{pick, both}
+use Rattle.std.proofs.lemmas.Bool.{agree_below_at}
 use Rattle.identifiers.proofs.LawsChoice.{and_is, both_true, pick_true, pick-false, by-test}
 use Rattle.text.specs.Digits.{hex_digit, between, digit_value, is_digit}
 
@@ -129,37 +128,15 @@ pub none_below : (base b : ℕ) → base ≤ 16 → b < 48 → is_digit base b �
 none_below base b m h = no_digit base b refl (omega (arith, worth-none b h))
 
 -- ---- the code's arithmetic, by a look at each byte
--- a test that antt computes of 0, 1, .. n - 1
-each : (ℕ → Bool) → ℕ → Bool
-each p zero = true
-each p (suc n) = both (p n) (each p n)
-
-each_at : (p : ℕ → Bool) (i n : ℕ) → each p n ≡ true → i < n → p i ≡ true
-unfolding each
-each_at p i zero h l = absurd (omega arith)
-each_at p i (suc n) h l =
-    let t = both_true (p n) (each p n) h in
-    ⊎_elim (λ (q : i ≡ n). ap p q ∙ t.0) (λ (q : i < n). each_at p i n t.1 q) (eq-or-lt_of_le (omega arith))
-
 quick : ℕ → ℕ
 quick b = pick (ltb ((b + 208) % 256) 10) ((b + 208) % 256) (pick (ltb ((bit_or b 32 + 159) % 256) 6) ((bit_or b 32 + 159) % 256 + 10) 16)
 
-right : ℕ → Bool
-right b = both (eqb (quick b) (digit_value b)) (ltb (bit_or b 32) 256)
-
-all_right : each right 256 ≡ true
-unfolding each both right quick digit_value between pick
-all_right = refl
-
-right_is : (b : ℕ) → b < 256 → (quick b ≡ digit_value b) × (bit_or b 32 < 256)
-unfolding right
-right_is b h = let t = both_true _ _ (each_at right b 256 all_right h) in (eqb-true _ _ t.0, ltb-true _ _ t.1)
-
-pub letter-below : (b : ℕ) → b < 256 → bit_or b 32 < 256
-letter-below b h = (right_is b h).1
+quick_right : (b : ℕ) → b < 256 → quick b ≡ digit_value b
+unfolding quick digit_value between pick both
+quick_right b h = eqb-true _ _ (agree_below_at (λ c. eqb (quick c) (digit_value c)) (λ _. true) 256 b refl h)
 
 -- the two choices, inner one first
 pub quick-value : (b : ℕ) {r s : ℕ} → b < 256 → s ≡ pick (ltb ((bit_or b 32 + 159) % 256) 6) ((bit_or b 32 + 159) % 256 + 10) 16
     → r ≡ pick (ltb ((b + 208) % 256) 10) ((b + 208) % 256) s → r ≡ digit_value b
 unfolding quick
-quick-value b {r} {s} h e f = f ∙ ap (pick (ltb ((b + 208) % 256) 10) ((b + 208) % 256)) e ∙ (right_is b h).0
+quick-value b {r} {s} h e f = f ∙ ap (pick (ltb ((b + 208) % 256) 10) ((b + 208) % 256)) e ∙ quick_right b h

@@ -1,5 +1,6 @@
 -- The theorems of numbers as text: a written number says itself and nothing else, what is read is exactly what the digits say, and a text is put
 -- whole or not at all. Each statement can be read without its proof. The worked numbers are in Worked.
+use Rattle.std.specs.Prelude.{Some, None}
 use mathlib.Core.Path.{◌≡◌, refl, sym, ap, ◌∙◌}
 use mathlib.Core.Bool.{Bool, true, false}
 use mathlib.Core.List.{List, [], ◌∷◌, ◌++◌}
@@ -16,7 +17,6 @@ use Rattle.identifiers.proofs.LawsChoice.{was-taken}
 use Rattle.text.specs.Digits.{decimal_in, decimal, hex, digit_value, value_from}
 use Rattle.text.specs.Putting.{PutsIfFits}
 use Rattle.text.specs.Reading.{all_digits, is_number, digits_read}
-use Rattle.text.specs.declared.reading.DigitsRead.TheVariants.{Number, NoNumber}
 use Rattle.text.proofs.LawsDigits.{small-enough, value-append, length-hex}
 use Rattle.text.proofs.LawsPutting.{put-fits, put-not, if-fits-length}
 use Rattle.text.proofs.LawsReading.{is-number, number_is, number_read, none_read, digits_decimal, digits-hex, decimal-first}
@@ -61,37 +61,37 @@ pub record Says (base places : ℕ) (text : List ℕ) (n : ℕ) : Type 0 where
   pub value : value_from base 0 text ≡ n
   pub small : n < 2 ^ 32
 
-number-says : (base places : ℕ) (text : List ℕ) (n : ℕ) → digits_read base places text ≡ Number n → Says base places text n
+number-says : (base places : ℕ) (text : List ℕ) (n : ℕ) → digits_read base places text ≡ Some n → Says base places text n
 unfolding digits_read
 number-says base places text n e =
-    let other : NoNumber ≡ Number n → ⊥ = (λ q. let z : ◌≡◌ {A = ℕ} 0 1 = cc in omega arith) in
-    let t = was-taken (is_number base places text) (Number (value_from base 0 text)) NoNumber (Number n) other e in
+    let other : None ≡ Some n → ⊥ = (λ q. let z : ◌≡◌ {A = ℕ} 0 1 = cc in omega arith) in
+    let t = was-taken (is_number base places text) (Some (value_from base 0 text)) None (Some n) other e in
     let v : value_from base 0 text ≡ n = cc in
     let i = number_is base places text t.0 in
     record { long = i.0; digits = i.1; value = v; small = omega (arith, i.2) }
 
-says-number : (base places : ℕ) (text : List ℕ) (n : ℕ) → Says base places text n → digits_read base places text ≡ Number n
-says-number base places text n s = sym (number_read base places text (is-number base places text s.long s.digits (omega (arith, s.value, s.small)))) ∙ ap Number s.value
+says-number : (base places : ℕ) (text : List ℕ) (n : ℕ) → Says base places text n → digits_read base places text ≡ Some n
+says-number base places text n s = sym (number_read base places text (is-number base places text s.long s.digits (omega (arith, s.value, s.small)))) ∙ ap Some s.value
 
 pub read-exactly : (base places : ℕ) (text : List ℕ) (n : ℕ)
-    → (digits_read base places text ≡ Number n → Says base places text n) × (Says base places text n → digits_read base places text ≡ Number n)
+    → (digits_read base places text ≡ Some n → Says base places text n) × (Says base places text n → digits_read base places text ≡ Some n)
 read-exactly base places text n = (number-says base places text n, says-number base places text n)
 
 -- and none is answered exactly where the bytes say no such number
 pub no-number-exactly : (base places : ℕ) (text : List ℕ)
-    → (digits_read base places text ≡ NoNumber → (n : ℕ) → Says base places text n → ⊥) × (((n : ℕ) → Says base places text n → ⊥) → digits_read base places text ≡ NoNumber)
+    → (digits_read base places text ≡ None → (n : ℕ) → Says base places text n → ⊥) × (((n : ℕ) → Says base places text n → ⊥) → digits_read base places text ≡ None)
 no-number-exactly base places text =
     ((λ e n s. let q = says-number base places text n s in let z : ◌≡◌ {A = ℕ} 0 1 = cc in omega arith), λ none. by_number (is_number base places text) refl none)
   where
-    by_number : (t : Bool) → is_number base places text ≡ t → ((n : ℕ) → Says base places text n → ⊥) → digits_read base places text ≡ NoNumber
+    by_number : (t : Bool) → is_number base places text ≡ t → ((n : ℕ) → Says base places text n → ⊥) → digits_read base places text ≡ None
     by_number true e none = absurd (none (value_from base 0 text) (number-says base places text (value_from base 0 text) (sym (number_read base places text e))))
     by_number false e none = sym (none_read base places text e)
 
 -- what was written is read back: a number below 2^32 from its decimal, a byte from its two hexadecimal digits
-pub decimal-read : (n : ℕ) → n < 2 ^ 32 → digits_read 10 (length (decimal n)) (decimal n) ≡ Number n
+pub decimal-read : (n : ℕ) → n < 2 ^ 32 → digits_read 10 (length (decimal n)) (decimal n) ≡ Some n
 decimal-read n h = says-number 10 (length (decimal n)) (decimal n) n (record { long = refl; digits = digits_decimal n; value = decimal-says n; small = h })
 
-pub hex-read : (n : ℕ) → n < 256 → digits_read 16 2 (hex n) ≡ Number n
+pub hex-read : (n : ℕ) → n < 256 → digits_read 16 2 (hex n) ≡ Some n
 hex-read n h = says-number 16 2 (hex n) n (record { long = length-hex n; digits = digits-hex n h; value = hex-says n h; small = omega arith })
 
 -- ---- the digits: exactly the 22 bytes 0 to 9, A to F and a to f are worth less than 16, every other byte 16, and exactly 0 to 9 less than 10
@@ -162,12 +162,12 @@ put-nothing h p = put-not h p
 
 -- what was put is read back from where it stands
 pub decimal-put-read : {before after : List ℕ} {at end : ℕ} (n : ℕ) → n < 2 ^ 32 → at + length (decimal n) ≤ length before → PutsIfFits before at (decimal n) end after
-    → digits_read 10 (end - at) (drop at (take end after)) ≡ Number n
+    → digits_read 10 (end - at) (drop at (take end after)) ≡ Some n
 decimal-put-read {at = at} {end = end} n h r p =
     let w = put_whole r p in
     let places : end - at ≡ length (decimal n) = omega (arith, w.ends) in
     rw (places, w.stands) (decimal-read n h)
 
 pub hex-put-read : {before after : List ℕ} {at end : ℕ} (n : ℕ) → n < 256 → at + 2 ≤ length before → PutsIfFits before at (hex n) end after
-    → digits_read 16 2 (drop at (take end after)) ≡ Number n
+    → digits_read 16 2 (drop at (take end after)) ≡ Some n
 hex-put-read n h r p = let w = put_whole (omega (arith, length-hex n)) p in rw w.stands (hex-read n h)

@@ -1,5 +1,6 @@
 -- Numbers worked by hand: written in decimal and in hexadecimal, read, and put at the edge of a buffer, computed by the definitions that the
 -- contracts cite.
+use Rattle.std.specs.Prelude.{Some, None}
 use mathlib.Core.Path.{◌≡◌, refl, sym, ◌∙◌}
 use mathlib.Core.List.{List, [], ◌∷◌}
 use Prim.Native.Nat.{ℕ}
@@ -9,7 +10,6 @@ use Rattle.identifiers.proofs.LawsBytes.{puts-byte, ◌▸◌}
 use Rattle.text.specs.Digits.{decimal_in, decimal, hex_digit, hex, between, digit_value, is_digit, value_from}
 use Rattle.text.specs.Putting.{PutsIfFits}
 use Rattle.text.specs.Reading.{all_digits, is_number, digits_read}
-use Rattle.text.specs.declared.reading.DigitsRead.TheVariants.{Number, NoNumber}
 use Rattle.text.proofs.LawsDigits.{decimal-in}
 use Rattle.text.proofs.LawsPutting.{put-fits, put-not}
 
@@ -39,16 +39,16 @@ pub record Worked : Type 0 where
   pub hex-12 : hex 0x0C ≡ 48 ∷ 67 ∷ []
   pub hex-255 : hex 255 ≡ 70 ∷ 70 ∷ []
   -- "7f" and "7F" are 127; "7G", "7" alone and no byte at all are no number of two digits
-  pub small-letter : digits_read 16 2 (55 ∷ 102 ∷ []) ≡ Number 127
-  pub capital-letter : digits_read 16 2 (55 ∷ 70 ∷ []) ≡ Number 127
-  pub past-f : digits_read 16 2 (55 ∷ 71 ∷ []) ≡ NoNumber
-  pub one-digit : digits_read 16 2 (55 ∷ []) ≡ NoNumber
-  pub no_digit : digits_read 16 2 [] ≡ NoNumber
+  pub small-letter : digits_read 16 2 (55 ∷ 102 ∷ []) ≡ Some 127
+  pub capital-letter : digits_read 16 2 (55 ∷ 70 ∷ []) ≡ Some 127
+  pub past-f : digits_read 16 2 (55 ∷ 71 ∷ []) ≡ None
+  pub one-digit : digits_read 16 2 (55 ∷ []) ≡ None
+  pub no_digit : digits_read 16 2 [] ≡ None
   -- "5"; "A" is no decimal digit; the largest number that is read, and one more
-  pub decimal-5 : digits_read 10 1 (53 ∷ []) ≡ Number 5
-  pub letter : digits_read 10 1 (65 ∷ []) ≡ NoNumber
-  pub largest-read : digits_read 10 10 largest ≡ Number 4294967295
-  pub too_large : digits_read 10 10 one_more ≡ NoNumber
+  pub decimal-5 : digits_read 10 1 (53 ∷ []) ≡ Some 5
+  pub letter : digits_read 10 1 (65 ∷ []) ≡ None
+  pub largest-read : digits_read 10 10 largest ≡ Some 4294967295
+  pub too_large : digits_read 10 10 one_more ≡ None
   -- three bytes at 2 of five fill the buffer; at 3 they do not fit, and nothing changes
   pub fits : {end : ℕ} {after : List ℕ} → PutsIfFits five 2 abc end after → (end ≡ 5) × (after ≡ 1 ∷ 2 ∷ 97 ∷ 98 ∷ 99 ∷ [])
   pub past_the_end : {end : ℕ} {after : List ℕ} → PutsIfFits five 3 abc end after → (end ≡ 3) × (after ≡ five)

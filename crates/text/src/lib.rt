@@ -5,4 +5,4 @@ mod putting;
 mod reading;
 
 pub use putting::{put, put_decimal, put_hex};
-pub use reading::{DigitsRead, digit_value, read_decimal, read_hex};
+pub use reading::{digit_value, read_decimal, read_hex};

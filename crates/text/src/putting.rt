@@ -1,82 +1,66 @@
 // A text, a number in decimal or a byte in hexadecimal put into a lent buffer. Where it fits it is put and the place behind it
-// is answered; where it does not, nothing is written and the place is answered as it was.
-ghost use Rattle.std.specs.Prelude.{◌≡◌, ◌<◌, length};
+// is answered; where it does not, nothing is written and the place is answered as it was: the clause `PutsIfFits` has no Option. All
+// printing goes into a lent page, since there is no heap; by `PutsIfFits` each byte of it is promised, and of what `write!` puts std's
+// `fmt` ensures nothing. Buffer and place stand apart: of a struct that lends the buffer each contract would have to say besides that
+// it lends the same one.
+ghost use Rattle.std.specs.Prelude.{◌≡◌, ◌+◌, ◌≤◌, ◌<◌, length};
+ghost use Rattle.std.specs.Option.{SomeIff};
 ghost use Rattle.text.specs.Digits.{decimal, hex, hex_digit};
-ghost use Rattle.text.specs.Putting.{fits, PutsIfFits};
+ghost use Rattle.text.specs.Putting.{PutsIfFits};
 
-fn room(buffer: &[u8], at: usize, count: usize) -> bool
-    ensures { result ≡ fits buffer.now at count }
+// The place behind so many bytes, where they fit the buffer.
+fn end_of(buffer: &[u8], at: usize, count: usize) -> Option<usize>
+    ensures { SomeIff result (at + count ≤ length buffer.now) (at + count) }
 {
-    if buffer.len() < count {
-        return false;
-    }
-    at <= buffer.len() - count
+    at.checked_add(count).filter(|end| *end <= buffer.len())
 }
 
 pub fn put(buffer: &mut [u8], at: usize, text: &[u8]) -> usize
     ensures { PutsIfFits buffer.old at text.now result buffer.new }
 {
-    if !room(buffer, at, text.len()) {
+    let Some(end) = end_of(buffer, at, text.len()) else {
         return at;
-    }
-    let mut i = 0;
-    while i < text.len() {
-        buffer[at + i] = text[i];
-        i += 1;
-    }
-    at + i
+    };
+    buffer[at..end].copy_from_slice(text);
+    end
 }
 
 // How many digits a number has.
 fn places_of(number: usize) -> usize
     ensures { result ≡ length (decimal number) }
 {
-    let mut rest = number;
-    let mut places = 1;
-    while 10 <= rest {
-        rest = rest / 10;
-        places += 1;
-    }
-    places
+    number.max(1).ilog10() as usize + 1
 }
 
-// The digits from the last one on.
+// The digits from the last one on. By index: of what `iter_mut().rev()` writes a proof knows no element.
 pub fn put_decimal(buffer: &mut [u8], at: usize, number: usize) -> usize
     ensures { PutsIfFits buffer.old at (decimal number) result buffer.new }
 {
-    let places = places_of(number);
-    if !room(buffer, at, places) {
+    let Some(end) = end_of(buffer, at, places_of(number)) else {
         return at;
-    }
+    };
     let mut rest = number;
-    let mut last = at + places - 1;
-    while 10 <= rest {
-        buffer[last] = 48 + (rest % 10) as u8;
-        rest = rest / 10;
-        last -= 1;
+    for place in (at..end).rev() {
+        buffer[place] = b'0' + (rest % 10) as u8;
+        rest /= 10;
     }
-    buffer[last] = 48 + rest as u8;
-    at + places
+    end
 }
 
+#[tactic(auto, unfolding(identifiers::specs::Choice::pick, crate::specs::Digits::hex_digit))]
 fn hex_digit(value: u8) -> u8
     requires { value < 16 }
     ensures { result ≡ hex_digit value }
 {
     if value < 10 {
-        return 48 + value;
+        b'0' + value
+    } else {
+        b'A' - 10 + value
     }
-    55 + value
 }
 
 pub fn put_hex(buffer: &mut [u8], at: usize, byte: u8) -> usize
     ensures { PutsIfFits buffer.old at (hex byte) result buffer.new }
 {
-    if !room(buffer, at, 2) {
-        return at;
-    }
-    let second = at + 1;
-    buffer[at] = hex_digit(byte / 16);
-    buffer[second] = hex_digit(byte % 16);
-    at + 2
+    put(buffer, at, &[hex_digit(byte / 16), hex_digit(byte % 16)])
 }

@@ -1,21 +1,16 @@
 -- `read_parameter` meets its contract: a kind over 7 is refusal 20, and every other has a sound row.
-use mathlib.Core.Path.{refl, sym, ap, subst, ◌∙◌}
-use borrow.Author.Tests.{lt-ltb, le-ltb}
-use Rattle.identifiers.proofs.LawsChoice.{taken, passed}
-use Rattle.readings.specs.declared.kind.Kind.{Kind}
-use Rattle.readings.specs.Kinds.{Sound}
-use Rattle.readings.specs.Readings.{measured_as, parameter_of}
-use Rattle.readings.proofs.LawsReadings.{kinds-sound}
+use mathlib.Core.Path.{sym, ◌∙◌}
+use Rattle.std.proofs.lemmas.Result.{err_from_is_err_and}
+use Rattle.readings.proofs.LawsReadings.{kind-sound, kind-read, kind-unread}
 use Rattle.readings.proofs.reading.read_parameter.Goals as goal
 
-pub returns-then-kind-gt7 : goal.returns-then-kind-gt7
-unfolding parameter_of
-returns-then-kind-gt7 c = taken _ (lt-ltb _ _ c.if-kind-gt7.true) refl
+pub returns-in_err-kind : goal.returns-in_err-kind
+returns-in_err-kind c =
+    let p = err_from_is_err_and c.from_residual.result c.from_residual.ensures.1 in
+    rw (p.1, p.2) (kind-unread c.args.kind _ c.args.raw (sym c.try_from.ensures ∙ c.in_err-kind.was))
 
 pub measure-requires : goal.measure-requires
-measure-requires c = subst Sound (sym c.of_number.ensures) (kinds-sound c.args.kind)
+measure-requires c = kind-sound c.args.kind _ (sym c.try_from.ensures ∙ c.in_ok-kind.was)
 
 pub returns : goal.returns
-unfolding parameter_of
-returns c =
-    passed _ (le-ltb _ _ c.if-kind-gt7.false) (c.measure.ensures ∙ ap (λ (k : Kind). measured_as k c.args.raw) c.of_number.ensures)
+returns c = c.measure.ensures ∙ kind-read c.args.kind _ c.args.raw (sym c.try_from.ensures ∙ c.in_ok-kind.was)

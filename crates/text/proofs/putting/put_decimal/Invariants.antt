@@ -1,11 +1,6 @@
--- What each turn of `put_decimal` keeps, and what falls.
-use Prim.Native.Nat.{◌+◌, ◌≤◌, ◌<◌}
-use lib.ListN.{length}
+-- What each turn of `put_decimal` keeps.
 use Rattle.text.proofs.LawsPutting.{ToPut}
 use Rattle.text.proofs.putting.put_decimal.Given as goal
 
-abbrev pub invariant-loop-rest : goal.invariant-loop-rest
-invariant-loop-rest l = (l.at + l.places ≤ length l.initial.buffer) × (l.last < l.at + l.places) × ToPut l.initial.buffer l.at l.number l.buffer l.rest l.last
-
-abbrev pub decreases-loop-rest : goal.decreases-loop-rest
-decreases-loop-rest l = l.rest
+abbrev pub invariant-loop-place : goal.invariant-loop-place
+invariant-loop-place l = ToPut l.initial.buffer l.at l.number l.buffer l.rest l.place

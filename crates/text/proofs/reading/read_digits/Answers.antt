@@ -1,36 +1,25 @@
 -- `read_digits` meets its contract: what the text says is what the digits to come say behind the number read so far.
-use native.Mathlib.Nat.{mul-le-mul_left}
+use mathlib.Core.Path.{◌∙◌}
 use native.Mathlib.Omega.{arith}
-use Rattle.text.proofs.LawsReading.{reading-first, reading-more, reading-stop, reading-large, reading-done, other_length}
+use Rattle.text.proofs.LawsReading.{reading-more, reading-stop, reading-large, reading-done, other_length, converted, not_converted}
 use Rattle.text.proofs.reading.read_digits.Goals as goal
 
 pub returns-then-text-places : goal.returns-then-text-places
-returns-then-text-places c = other_length _ _ _ c.if-text-places.true
+returns-then-text-places g c = other_length _ _ _ c.if-text-places.true
 
-pub loop-i-init : goal.loop-i-init
-loop-i-init c = (omega arith, omega arith, reading-first _ _)
+pub returns-then-digit : goal.returns-then-digit
+returns-then-digit g c = reading-stop c.loop-byte.invariant c.loop-byte-test.true c.digit_value-digit.ensures _ c.if-digit.true
 
-pub returns-then-base-digit : goal.returns-then-base-digit
-returns-then-base-digit c =
-    reading-stop c.loop-i.invariant.2 c.loop-i-test.true c.digit_value-digit.ensures _ c.if-base-digit.true
+pub returns-in_err-number : goal.returns-in_err-number
+returns-in_err-number g c =
+    let r = reading-more c.loop-byte.invariant c.loop-byte-test.true c.digit_value-digit.ensures c.if-digit.false in
+    let large = not_converted _ _ _ c.try_from.ensures c.ok.ensures.value c.in_err-number.was in
+    c.from_residual.ensures ∙ reading-large r _ (omega arith) (omega arith)
 
-pub overflow_mul-number : goal.overflow_mul-number
-overflow_mul-number c = omega (arith, mul-le-mul_left c.loop-i.number c.requires)
-
-pub overflow_add-number : goal.overflow_add-number
-overflow_add-number c = omega (arith, mul-le-mul_left c.loop-i.number c.requires)
-
-pub returns-then-number-ge4294967296 : goal.returns-then-number-ge4294967296
-returns-then-number-ge4294967296 c =
-    let r = reading-more c.loop-i.invariant.2 c.loop-i-test.true c.digit_value-digit.ensures c.if-base-digit.false in
-    reading-large r _ (omega arith) (omega arith)
-
-pub loop-i-preserved : goal.loop-i-preserved
-loop-i-preserved c =
-    (omega arith, omega arith, reading-more c.loop-i.invariant.2 c.loop-i-test.true c.digit_value-digit.ensures c.if-base-digit.false)
-
-pub overflow_cast-result : goal.overflow_cast-result
-overflow_cast-result c = omega arith
+pub loop-byte-preserved : goal.loop-byte-preserved
+loop-byte-preserved g c =
+    let is = converted _ _ _ c.try_from.ensures c.ok.ensures.value c.in_ok-number.was in
+    rw is (reading-more c.loop-byte.invariant c.loop-byte-test.true c.digit_value-digit.ensures c.if-digit.false)
 
 pub returns : goal.returns
-returns c = let at-end = c.loop-i.invariant in reading-done at-end.2 _ c.if-text-places.false c.loop-i-test.false at-end.1
+returns g c = reading-done c.loop-byte.invariant _ c.if-text-places.false c.loop-byte-test.false (omega arith)

@@ -1,29 +1,15 @@
--- `Position::predecessor` meets its contract: each arm has what the definition computes at its case.
-use mathlib.Core.Path.{sym, ap}
-use Rattle.identifiers.specs.Choice.{pick}
-use Rattle.readings.specs.Positions.{predecessor_of, position_at}
+-- `Position::predecessor` meets its contract: the position of the number before, where there is one.
+use mathlib.Core.Path.{sym, ap, ◌∙◌}
+use Prim.Native.Nat.{◌-◌}
+use native.Mathlib.Omega.{arith}
+use Rattle.readings.specs.Positions.{position_at}
+use Rattle.readings.proofs.LawsPositions.{first-predecessor, next-predecessor}
 use Rattle.readings.proofs.position.Position.predecessor.Goals as goal
 
-pub returns-in-Zero : goal.returns-in-Zero
-unfolding predecessor_of position_at pick
-returns-in-Zero c = ap predecessor_of (sym c.in-Zero.is)
+pub returns-in_err-before : goal.returns-in_err-before
+returns-in_err-before c = c.from_residual.ensures ∙ sym (first-predecessor _ (omega (arith, c.place.ensures, c.in_err-before.ensures)))
 
-pub returns-in-One : goal.returns-in-One
-unfolding predecessor_of position_at pick
-returns-in-One c = ap predecessor_of (sym c.in-One.is)
-
-pub returns-in-Two : goal.returns-in-Two
-unfolding predecessor_of position_at pick
-returns-in-Two c = ap predecessor_of (sym c.in-Two.is)
-
-pub returns-in-Three : goal.returns-in-Three
-unfolding predecessor_of position_at pick
-returns-in-Three c = ap predecessor_of (sym c.in-Three.is)
-
-pub returns-in-Four : goal.returns-in-Four
-unfolding predecessor_of position_at pick
-returns-in-Four c = ap predecessor_of (sym c.in-Four.is)
-
-pub returns-in-Five : goal.returns-in-Five
-unfolding predecessor_of position_at pick
-returns-in-Five c = ap predecessor_of (sym c.in-Five.is)
+pub returns : goal.returns
+returns c =
+    let e = c.in_ok-before.ensures in
+    c.at.ensures ∙ ap position_at (e.1 ∙ ap (λ n. n - 1) c.place.ensures) ∙ sym (next-predecessor _ (omega (arith, c.place.ensures, e.0)))
