@@ -1,5 +1,5 @@
 -- Checks 2 to 8, both ways: what a frame has that they let through, and which of them one fails that they refuse.
-use Rattle.std.proofs.Common.{◌≡◌, ℕ, ◌≤◌, Bool, true, false, eqb, leb, ◌↔◌, List, length, get_or, sym, refl, ap, ◌∙◌, subst, lit≤, eq-eqb, ne_eqb, eqb-true, le-leb, leb-false, leb-true}
+use Rattle.std.proofs.Common.{◌≡◌, ℕ, ◌≤◌, Bool, true, false, eqb, leb, ◌↔◌, List, length, get_or, sym, refl, ap, ◌∙◌, subst, lit≤, eq-eqb, ne_eqb, eqb-true, le-leb, leb-false, leb-true, Result, Ok, Err, Option, Some, None}
 use mathlib.Core.Bool.{false≢true}
 use borrow.Author.Tests.{eqb-false, lt-leb}
 use Rattle.identifiers.specs.Choice.{pick, both, either}
@@ -7,25 +7,21 @@ use Rattle.identifiers.specs.Refusals.{refusal, number_of}
 use Rattle.identifiers.specs.Identifiers.{fields_of}
 use Rattle.identifiers.specs.declared.refusal.Refusal.{Refusal}
 use Rattle.identifiers.specs.declared.identifier.Identifier.{Identifier}
-use Rattle.identifiers.specs.declared.identifier.IdentifierRead.{IdentifierRead}
 use Rattle.identifiers.proofs.LawsChoice.{Holds, by-test, pick_true, pick-false, both_true, both_false, stop, so, right-decides}
 use Rattle.identifiers.proofs.LawsIdentifiers.{Reads, reads-2, reads-3, reads-4, reads-fields, frame-reads, frame-2, frame-3, frame-4, frame-fields}
 use Rattle.readings.specs.Positions.{place_of, address_of, position_of}
 use Rattle.readings.specs.declared.position.Position.{Position}
-use Rattle.readings.specs.declared.position.Vehicle.{Vehicle}
-use Rattle.readings.specs.declared.position.Vehicle.TheVariants.{At, NoVehicle}
 use Rattle.readings.proofs.LawsPositions.{address-only, address-back, places-differ, not_none}
 use Rattle.receiver.specs.declared.addressing.Addressing.{Addressing}
-use Rattle.receiver.specs.declared.addressing.Addressing.TheVariants.{Refused, From}
-use Rattle.receiver.specs.Addressings.{diagnostic, destination_of, unit_is, addressed_from, addressed_by, addressed_read, addressing_of}
+use Rattle.receiver.specs.Addressings.{from_vehicle, diagnostic, destination_of, unit_is, addressed_from, addressed_by, addressed_read, addressing_of}
 use Rattle.receiver.specs.Wire.{Addressed}
 use Rattle.receiver.specs.Names.{Readable, Diagnostic, FromOther, destined_to, NotDiagnostic, other_page, other_format, NoOtherVehicle, no_vehicle, own_address, OtherUnit, no_unit, another}
 use Rattle.receiver.specs.Names.{Misaddressed, names_2, names_3, names_4, names_5, names_6, names_7, names_8}
 
 -- what is known of a frame that is so addressed
-abbrev pub FairAddressing : Position → ℕ → ℕ → List ℕ → Addressing → Type 0
-FairAddressing own unit n bytes (Refused why) = Misaddressed own unit n bytes why
-FairAddressing own unit n bytes (From p functional) = Addressed own unit n bytes p functional
+abbrev pub FairAddressing : Position → ℕ → ℕ → List ℕ → Result Addressing Refusal → Type 0
+FairAddressing own unit n bytes (Err why) = Misaddressed own unit n bytes why
+FairAddressing own unit n bytes (Ok a) = Addressed own unit n bytes a.from a.functional
 
 -- ---- which check failed
 wrong-unit : (unit : ℕ) (bytes : List ℕ) (some same : Bool) → leb 1 (length bytes) ≡ some → eqb (get_or bytes 0 0) unit ≡ same → both some same ≡ false → OtherUnit unit bytes
@@ -46,10 +42,10 @@ module _ (own : Position) (unit n : ℕ) (bytes : List ℕ) where
   abbrev i : Identifier
   i = fields_of n
 
-  abbrev Fairly : Addressing → Type 0
+  abbrev Fairly : Result Addressing Refusal → Type 0
   Fairly a = Holds (FairAddressing own unit n bytes) a
 
-  refused : {why : Refusal} → Misaddressed own unit n bytes why → Fairly (Refused why)
+  refused : {why : Refusal} → Misaddressed own unit n bytes why → Fairly (Err why)
   refused x = record { holds = x }
 
   -- ---- what a frame that passes has, and which check one fails that does not
@@ -66,7 +62,7 @@ module _ (own : Position) (unit n : ℕ) (bytes : List ℕ) where
       record { range = r.range; count = r.count; reserved = r.reserved; page = d.page; format = d.format; source = x.source; other = x.other; specific = s; own_unit = u }
 
   module _ (r : Readable n bytes) where
-    fair-from : diagnostic i ≡ true → (v : Vehicle) → position_of i.source ≡ v → Fairly (addressed_from own unit i bytes v)
+    fair-from : diagnostic i ≡ true → (v : Option Position) → position_of i.source ≡ v → Fairly (addressed_from own unit i bytes v)
     unfolding addressed_from diagnostic destination_of unit_is
     fair-from d v s = by v s
       where
@@ -76,9 +72,9 @@ module _ (own : Position) (unit n : ℕ) (bytes : List ℕ) where
         x : Diagnostic n bytes (eqb i.format 205)
         x = record { readable = r; page = eqb-true _ _ k.0; format = format-is i.format _ refl k.1 }
 
-        by : (v : Vehicle) → position_of i.source ≡ v → Fairly (addressed_from own unit i bytes v)
-        by NoVehicle s = refused (names_6 x (no_vehicle (λ q (e : i.source ≡ address_of q). not_none q (sym s ∙ ap position_of e ∙ address-back q))))
-        by (At p) s =
+        by : (v : Option Position) → position_of i.source ≡ v → Fairly (addressed_from own unit i bytes v)
+        by None s = refused (names_6 x (no_vehicle (λ q (e : i.source ≡ address_of q). not_none q (sym s ∙ ap position_of e ∙ address-back q))))
+        by (Some p) s =
             let from : i.source ≡ address_of p = address-only _ p s in
             by-test _ (λ e. refused (names_6 x (own_address (from ∙ ap address_of (places-differ p own (eqb-true _ _ e))))))
             (λ e. let y : FromOther own n bytes p (eqb i.format 205) = record { diagnostic = x; source = from; other = eqb-false _ _ e } in
@@ -91,14 +87,14 @@ module _ (own : Position) (unit n : ℕ) (bytes : List ℕ) where
     unfolding addressed_by diagnostic
     fair-by = by-test _ (λ e. fair-from e (position_of i.source) refl) (λ e. refused (names_5 r (wrong-format n _ _ _ refl refl refl e)))
 
-  fair-read : {r : IdentifierRead} → Reads n (length bytes) r → FairAddressing own unit n bytes (addressed_read own unit bytes r)
+  fair-read : {r : Result Identifier Refusal} → Reads n (length bytes) r → FairAddressing own unit n bytes (addressed_read own unit bytes r)
   unfolding addressed_read
   fair-read (reads-2 a) = names_2 a
   fair-read (reads-3 a b) = names_3 a b
   fair-read (reads-4 a b c) = names_4 a b c
   fair-read (reads-fields a b c) = (fair-by (record { range = a; count = b; reserved = c })).holds
 
-  pub fair-addressing : (a : Addressing) → addressing_of own unit n bytes ≡ a → FairAddressing own unit n bytes a
+  pub fair-addressing : (a : Result Addressing Refusal) → addressing_of own unit n bytes ≡ a → FairAddressing own unit n bytes a
   unfolding addressing_of
   fair-addressing a e = subst (FairAddressing own unit n bytes) e (fair-read (frame-reads n (length bytes)))
 
@@ -123,12 +119,12 @@ module _ (own : Position) (unit n : ℕ) (bytes : List ℕ) where
   not-unit (no_unit x) = sym (stop _ (lt-leb _ _ x))
   not-unit (another a b) = ap (both _) (ne_eqb _ _ b) ∙ both_false _
 
-  from-none : (v : Vehicle) → position_of i.source ≡ v → NoOtherVehicle own n → addressed_from own unit i bytes v ≡ Refused (refusal 6)
+  from-none : (v : Option Position) → position_of i.source ≡ v → NoOtherVehicle own n → addressed_from own unit i bytes v ≡ Err (refusal 6)
   unfolding addressed_from
-  from-none NoVehicle e x = refl
-  from-none (At p) e (no_vehicle x) = absurd (x p (address-only _ p e))
-  from-none (At p) e (own_address x) =
-      let same : At p ≡ At own = sym e ∙ ap position_of x ∙ address-back own in
+  from-none None e x = refl
+  from-none (Some p) e (no_vehicle x) = absurd (x p (address-only _ p e))
+  from-none (Some p) e (own_address x) =
+      let same : Some p ≡ Some own = sym e ∙ ap position_of x ∙ address-back own in
       let place : place_of p ≡ place_of own = ap place_of {x = p} {y = own} (cc) in
       pick_true _ _ (eq-eqb _ _ place)
 
@@ -142,21 +138,21 @@ module _ (own : Position) (unit n : ℕ) (bytes : List ℕ) where
   to-5 {functional} d = to-4 d.readable ∙ pick_true _ _ (is-diagnostic functional d.page d.format)
 
   to-6 : {p : Position} {functional : Bool} → FromOther own n bytes p functional
-      → addressing_of own unit n bytes ≡ pick (eqb i.specific (destined_to own functional)) (pick (unit_is unit bytes) (From p functional) (Refused (refusal 8))) (Refused (refusal 7))
+      → addressing_of own unit n bytes ≡ pick (eqb i.specific (destined_to own functional)) (pick (unit_is unit bytes) (from_vehicle p functional) (Err (refusal 8))) (Err (refusal 7))
   unfolding addressed_from destination_of
   to-6 {p} {functional} x =
       to-5 x.diagnostic
       ∙ ap (addressed_from own unit i bytes) (ap position_of x.source ∙ address-back p)
       ∙ rw (is-205 functional x.diagnostic.format) (pick-false _ _ (ne_eqb _ _ x.other))
 
-  so-addressed : (p : Position) (functional : Bool) → Addressed own unit n bytes p functional → addressing_of own unit n bytes ≡ From p functional
+  so-addressed : (p : Position) (functional : Bool) → Addressed own unit n bytes p functional → addressing_of own unit n bytes ≡ from_vehicle p functional
   unfolding unit_is
   so-addressed p functional a =
       to-6 (record { diagnostic = record { readable = record { range = a.range; count = a.count; reserved = a.reserved }; page = a.page; format = a.format }; source = a.source; other = a.other })
       ∙ pick_true _ _ (eq-eqb _ _ a.specific)
       ∙ pick_true _ _ (sym (so (le-leb _ _ a.own_unit.0) (sym (eq-eqb _ _ a.own_unit.1))))
 
-  so-misaddressed : {why : Refusal} → Misaddressed own unit n bytes why → addressing_of own unit n bytes ≡ Refused why
+  so-misaddressed : {why : Refusal} → Misaddressed own unit n bytes why → addressing_of own unit n bytes ≡ Err why
   unfolding addressing_of addressed_read addressed_by
   so-misaddressed (names_2 a) = ap (addressed_read own unit bytes) (frame-2 n _ a)
   so-misaddressed (names_3 a b) = ap (addressed_read own unit bytes) (frame-3 n _ a b)
@@ -167,11 +163,11 @@ module _ (own : Position) (unit n : ℕ) (bytes : List ℕ) where
   so-misaddressed (names_8 y s x) = to-6 y ∙ pick_true _ _ (eq-eqb _ _ s) ∙ pick-false _ _ (not-unit x)
 
   -- ---- a frame is from this vehicle and for this node exactly where its identifier and its first byte say so
-  pub addressing-is : (p : Position) (functional : Bool) → addressing_of own unit n bytes ≡ From p functional ↔ Addressed own unit n bytes p functional
+  pub addressing-is : (p : Position) (functional : Bool) → addressing_of own unit n bytes ≡ from_vehicle p functional ↔ Addressed own unit n bytes p functional
   addressing-is p functional = (fair-addressing _, so-addressed p functional)
 
   -- "Lowest first": and it is refused with this number exactly where the number names it
-  pub misaddressed-exactly : (why : Refusal) → addressing_of own unit n bytes ≡ Refused why ↔ Misaddressed own unit n bytes why
+  pub misaddressed-exactly : (why : Refusal) → addressing_of own unit n bytes ≡ Err why ↔ Misaddressed own unit n bytes why
   misaddressed-exactly why = (fair-addressing _, so-misaddressed)
 
   pub misaddressed-number : {why : Refusal} → Misaddressed own unit n bytes why → (2 ≤ number_of why) × (number_of why ≤ 8)

@@ -1,11 +1,11 @@
 -- A node whose numbers are bytes where bytes are meant stays one, whatever frame it is offered.
-use Rattle.std.proofs.Common.{◌≡◌, ℕ, ◌+◌, ◌-◌, ◌*◌, ◌<◌, ◌≤◌, true, List, length, sym, refl, ap, ◌∙◌, arith, ltb-true, le-leb}
+use Rattle.std.specs.Prelude.{Option, Some, None}
+use Rattle.std.proofs.Common.{◌≡◌, ℕ, ◌+◌, ◌-◌, ◌*◌, ◌<◌, ◌≤◌, true, List, length, sym, refl, ap, ◌∙◌, arith, ltb-true, le-leb, Result, Ok, Err}
 use Rattle.identifiers.specs.Choice.{both}
 use Rattle.identifiers.proofs.LawsChoice.{Holds, by-test, so, both_true}
 use Rattle.identifiers.proofs.LawsBelow.{all-each}
+use Rattle.identifiers.specs.declared.refusal.Refusal.{Refusal}
 use Rattle.readings.specs.declared.position.Position.{Position}
-use Rattle.readings.specs.declared.position.Vehicle.{Vehicle}
-use Rattle.readings.specs.declared.position.Vehicle.TheVariants.{At, NoVehicle}
 use Rattle.receiver.specs.declared.reception.Reception.{Reception}
 use Rattle.receiver.specs.declared.frame.Judged.{Judged}
 use Rattle.receiver.specs.declared.frame.Judged.TheVariants as judged
@@ -37,11 +37,11 @@ abbrev Keeps : Step → Type 0
 Keeps s = in_bytes s.reception ≡ true
 
 module _ (r : Reception) (h : in_bytes r ≡ true) (count stamp : ℕ) where
-  left-keeps : (o : Outcome) → Holds Keeps (leaving r o)
+  left-keeps : (o : Result Outcome Refusal) → Holds Keeps (leaving r o)
   unfolding leaving
   left-keeps o = record { holds = h }
 
-  closing-keeps : (o : Outcome) → Holds Keeps (closing o)
+  closing-keeps : (o : Result Outcome Refusal) → Holds Keeps (closing o)
   unfolding closing leaving
   closing-keeps o = record { holds = closed-bytes }
 
@@ -60,13 +60,13 @@ module _ (r : Reception) (h : in_bytes r ≡ true) (count stamp : ℕ) where
       (λ e. by-test _ (λ f. left-keeps _)
       (λ f. by-test _ (λ g. by-test _ (λ i. closing-keeps _) (λ i. taken-keeps from)) (λ g. closing-keeps _)))
 
-step_keeps : (own : Position) (unit n : ℕ) (r : Reception) (bytes : List ℕ) (stamp : ℕ) (j : Judged) → in_bytes r ≡ true → Fair own unit n bytes j → Keeps (step_of r j (length bytes) stamp)
+step_keeps : (own : Position) (unit n : ℕ) (r : Reception) (bytes : List ℕ) (stamp : ℕ) (j : Result Judged Refusal) → in_bytes r ≡ true → Fair own unit n bytes j → Keeps (step_of r j (length bytes) stamp)
 unfolding step_of opened closing leaving
-step_keeps own unit n r bytes stamp (judged.Refused why) h f = h
-step_keeps own unit n r bytes stamp (judged.Single from functional L) h f = (by-test {P = λ (x : Reception). in_bytes x ≡ true} functional (λ e. record { holds = h }) (λ e. record { holds = closed-bytes })).holds
-step_keeps own unit n r bytes stamp (judged.First from L) h f = open-bytes L 0 stamp f.1.most (omega arith)
-step_keeps own unit n r bytes stamp (judged.OverLong from) h f = closed-bytes
-step_keeps own unit n r bytes stamp (judged.Consecutive from number) h f = (followed-keeps r h (length bytes) stamp from number).holds
+step_keeps own unit n r bytes stamp (Err why) h f = h
+step_keeps own unit n r bytes stamp (Ok (judged.Single from functional L)) h f = (by-test {P = λ (x : Reception). in_bytes x ≡ true} functional (λ e. record { holds = h }) (λ e. record { holds = closed-bytes })).holds
+step_keeps own unit n r bytes stamp (Ok (judged.First from L)) h f = open-bytes L 0 stamp f.1.most (omega arith)
+step_keeps own unit n r bytes stamp (Ok (judged.OverLong from)) h f = closed-bytes
+step_keeps own unit n r bytes stamp (Ok (judged.Consecutive from number)) h f = (followed-keeps r h (length bytes) stamp from number).holds
 
 -- ---- the node
 module _ (n : Node) (h : bytes_in n ≡ true) where
@@ -76,9 +76,9 @@ module _ (n : Node) (h : bytes_in n ≡ true) where
       sym (so (both_true _ _ h).0 (sym (all-each _ 6 (λ i l. set_cases (λ (x : Reception). in_bytes x ≡ true) n.receptions p i r closed g (bytes-at n h i l)))))
 
   module _ (buffer : List ℕ) (identifier : ℕ) (bytes : List ℕ) (stamp : ℕ) where
-    at-vehicle : (v : Vehicle) → own_of n (length buffer) ≡ v → bytes_in (received_of n buffer identifier bytes stamp).node ≡ true
-    at-vehicle NoVehicle e = ap (λ (x : Received). bytes_in x.node) (received-1 n buffer identifier bytes stamp e) ∙ h
-    at-vehicle (At own) e =
+    at-vehicle : (v : Option Position) → own_of n (length buffer) ≡ v → bytes_in (received_of n buffer identifier bytes stamp).node ≡ true
+    at-vehicle None e = ap (λ (x : Received). bytes_in x.node) (received-1 n buffer identifier bytes stamp e) ∙ h
+    at-vehicle (Some own) e =
         let x = ready n (length buffer) own e in
         let j = judged_of own n.unit identifier bytes in
         ap (λ (x : Received). bytes_in x.node) (received_is n buffer own n.unit x.sound x.fits x.at refl identifier bytes stamp)

@@ -1,13 +1,12 @@
 -- The cutter refuses, with 16, exactly where document 01 says, and then gives no frame; so does flow control.
-use Rattle.std.proofs.Common.{◌≡◌, ℕ, ◌<◌, ◌≤◌, Bool, true, false, eqb, leb, ◌⊎◌, List, length, replicate, sym, refl, inl, inr, arith, lt-ltb, eq-eqb, eqb-true, le-leb, leb-true}
+use Rattle.std.specs.Prelude.{Err, Option, Some, None}
+use Rattle.std.proofs.Common.{◌≡◌, ℕ, ◌<◌, ◌≤◌, Bool, true, false, eqb, leb, ◌⊎◌, List, length, replicate, sym, refl, inl, inr, arith, lt-ltb, eq-eqb, eqb-true, le-leb, leb-true, Result}
 use Rattle.identifiers.specs.Choice.{pick, either}
 use Rattle.identifiers.specs.Refusals.{refusal}
-use Rattle.identifiers.specs.declared.answer.Answer.TheVariants.{Done, Refused}
 use Rattle.identifiers.proofs.LawsChoice.{by-test, pick_true, left-holds, right-holds}
+use Rattle.identifiers.specs.declared.refusal.Refusal.{Refusal}
 use Rattle.readings.specs.Positions.{position_at}
 use Rattle.readings.specs.declared.position.Position.{Position}
-use Rattle.readings.specs.declared.position.Vehicle.{Vehicle}
-use Rattle.readings.specs.declared.position.Vehicle.TheVariants.{At, NoVehicle}
 use Rattle.readings.proofs.LawsPositions.{position_past, position-none}
 use Rattle.receiver.specs.declared.cutter.FrameCut.{FrameCut}
 use Rattle.receiver.specs.declared.outcome.Control.{Control}
@@ -16,19 +15,25 @@ use Rattle.receiver.proofs.LawsPieces.{frames-none, none-else, between_first, be
 use Rattle.receiver.proofs.LawsOnWire.{headed-done}
 
 -- where there is no frame, the answer says so
-pub none-16 : no_frame.answer ≡ Refused (refusal 16)
+pub none-16 : no_frame ≡ Err (refusal 16)
 unfolding no_frame
 none-16 = refl
+
+pub ruleset none_rules = (none-16)
+
+-- a frame is none that is refused
+abbrev IsDone : Result FrameCut Refusal → Type 0
+IsDone c = c ≡ Err (refusal 16) → ⊥
 
 -- all its numbers but the refusal's are 0
 pub none_told : cut_told no_frame ≡ record { refusal = 16; length = 0; identifier = 0; «data» = replicate 8 0 }
 unfolding cut_told no_frame
 none_told = refl
 
-piece-done : (sender receiver : Position) (unit : ℕ) (message : List ℕ) (k : ℕ) → (piece_of sender receiver unit message k).answer ≡ Done
+piece-done : (sender receiver : Position) (unit : ℕ) (message : List ℕ) (k : ℕ) → IsDone (piece_of sender receiver unit message k)
 unfolding piece_of
 piece-done sender receiver unit message k =
-    (by-test {P = λ (c : FrameCut). c.answer ≡ Done} _ (λ e. record { holds = headed-done sender receiver _ _ })
+    (by-test {P = IsDone} _ (λ e. record { holds = headed-done sender receiver _ _ })
     (λ e. by-test _ (λ f. record { holds = headed-done sender receiver _ _ }) (λ f. record { holds = headed-done sender receiver _ _ }))).holds
 
 -- flow control: "positions over 5 or equal"
@@ -56,19 +61,19 @@ module _ (message : List ℕ) (k from to unit : ℕ) where
   cut-16 (no_receiver h) = none-else _ _ (between-second _ _ _ (position_past to h))
 
   -- everything else is cut
-  between-refused : (v u : Vehicle) → position_at from ≡ v → position_at to ≡ u → (between v u (λ s r. piece_of s r unit message k)).answer ≡ Refused (refusal 16) → Uncut message k from to
+  between-refused : (v u : Option Position) → position_at from ≡ v → position_at to ≡ u → between v u (λ s r. piece_of s r unit message k) ≡ Err (refusal 16) → Uncut message k from to
   unfolding between
-  between-refused NoVehicle u a b e = no_sender (position-none from a)
-  between-refused (At s) NoVehicle a b e = no_receiver (position-none to b)
-  between-refused (At s) (At r) a b e = let d = piece-done s r unit message k in let z : ◌≡◌ {A = ℕ} 0 1 = cc in absurd (omega arith)
+  between-refused None u a b e = no_sender (position-none from a)
+  between-refused (Some s) None a b e = no_receiver (position-none to b)
+  between-refused (Some s) (Some r) a b e = absurd (piece-done s r unit message k e)
 
   refused-uncut : (same past : Bool) → eqb from to ≡ same → leb (frame_count (length message)) k ≡ past
-      → (pick (either same past) no_frame (between (position_at from) (position_at to) (λ s r. piece_of s r unit message k))).answer ≡ Refused (refusal 16) → Uncut message k from to
+      → pick (either same past) no_frame (between (position_at from) (position_at to) (λ s r. piece_of s r unit message k)) ≡ Err (refusal 16) → Uncut message k from to
   unfolding pick either
   refused-uncut true past a b e = same_position (eqb-true _ _ a)
   refused-uncut false true a b e = past_last (leb-true _ _ b)
   refused-uncut false false a b e = between-refused (position_at from) (position_at to) refl refl e
 
-  pub only-16 : (cut_of message k from to unit).answer ≡ Refused (refusal 16) → Uncut message k from to
+  pub only-16 : cut_of message k from to unit ≡ Err (refusal 16) → Uncut message k from to
   unfolding cut_of
   only-16 e = refused-uncut _ _ refl refl e

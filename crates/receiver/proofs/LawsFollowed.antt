@@ -1,22 +1,22 @@
 -- A consecutive frame, one law a rung: nothing open, too short, a wrong number, late, taken, the last.
-use Rattle.std.proofs.Common.{◌≡◌, ℕ, suc, ◌+◌, ◌-◌, ◌*◌, ◌%◌, ◌^◌, ◌<◌, ◌≤◌, min, true, eqb, ◌≢◌, refl, ◌∙◌, add-one, arith, le-ltb, lt-ltb, eq-eqb, ne_eqb}
+use Rattle.std.proofs.Common.{◌≡◌, ℕ, suc, ◌+◌, ◌-◌, ◌*◌, ◌%◌, ◌^◌, ◌<◌, ◌≤◌, min, true, eqb, ◌≢◌, refl, ◌∙◌, add-one, arith, le-ltb, lt-ltb, eq-eqb, ne_eqb, Ok, Err}
 use Rattle.identifiers.specs.Choice.{pick}
 use Rattle.identifiers.specs.Refusals.{refusal}
 use Rattle.identifiers.proofs.LawsChoice.{pick_true, pick-false}
 use Rattle.readings.specs.declared.position.Position.{Position}
 use Rattle.receiver.specs.declared.reception.Reception.{Reception}
 use Rattle.receiver.specs.declared.frame.Judged.TheVariants.{Consecutive}
-use Rattle.receiver.specs.declared.outcome.Outcome.TheVariants.{Refused, Taken, Train}
+use Rattle.receiver.specs.declared.outcome.Outcome.TheVariants.{Taken, Train}
 use Rattle.receiver.specs.Receptions.{closed, open_with, region_at}
 use Rattle.receiver.specs.Steps.{gap_of, leaving, closing, done_of, left_of, taken_step, followed, step_of}
 
 -- of any reception
-pub consecutive-step : (r : Reception) (from : Position) (number count stamp : ℕ) → step_of r (Consecutive from number) count stamp ≡ followed r from number count stamp
+pub consecutive-step : (r : Reception) (from : Position) (number count stamp : ℕ) → step_of r (Ok (Consecutive from number)) count stamp ≡ followed r from number count stamp
 unfolding step_of
 consecutive-step r from number count stamp = refl
 
 -- 12 "consecutive, nothing open"
-pub nothing-open : (from : Position) (number count stamp : ℕ) → followed closed from number count stamp ≡ leaving closed (Refused (refusal 12))
+pub nothing-open : (from : Position) (number count stamp : ℕ) → followed closed from number count stamp ≡ leaving closed (Err (refusal 12))
 unfolding followed pick
 nothing-open from number count stamp = refl
 
@@ -24,12 +24,12 @@ module _ (L k t : ℕ) (from : Position) (number count stamp : ℕ) (is_open : L
   abbrev m : ℕ
   m = min 6 (L - (5 + 6 * k))
 
-  pub followed-short : count < 2 + m → followed (open_with L k t) from number count stamp ≡ leaving (open_with L k t) (Refused (refusal 9))
+  pub followed-short : count < 2 + m → followed (open_with L k t) from number count stamp ≡ leaving (open_with L k t) (Err (refusal 9))
   unfolding followed left_of done_of
   followed-short h = pick-false _ _ (ne_eqb _ _ is_open) ∙ pick_true _ _ (lt-ltb _ _ h)
 
   module _ (enough : 2 + m ≤ count) where
-    pub followed-wrong : number ≢ suc k % 16 → followed (open_with L k t) from number count stamp ≡ closing (Refused (refusal 13))
+    pub followed-wrong : number ≢ suc k % 16 → followed (open_with L k t) from number count stamp ≡ closing (Err (refusal 13))
     unfolding followed left_of done_of
     followed-wrong h =
         let n : number ≢ (k + 1) % 16 = rw (add-one k) h in
@@ -39,7 +39,7 @@ module _ (L k t : ℕ) (from : Position) (number count stamp : ℕ) (is_open : L
       at-number : eqb number ((k + 1) % 16) ≡ true
       at-number = rw (add-one k) (eq-eqb _ _ in_order)
 
-      pub followed-late : 150 < gap_of stamp t → followed (open_with L k t) from number count stamp ≡ closing (Refused (refusal 14))
+      pub followed-late : 150 < gap_of stamp t → followed (open_with L k t) from number count stamp ≡ closing (Err (refusal 14))
       unfolding followed left_of done_of
       followed-late h = pick-false _ _ (ne_eqb _ _ is_open) ∙ pick-false _ _ (le-ltb _ _ enough) ∙ pick_true _ _ at-number ∙ pick_true _ _ (lt-ltb _ _ h)
 
@@ -49,12 +49,12 @@ module _ (L k t : ℕ) (from : Position) (number count stamp : ℕ) (is_open : L
         followed-taken = pick-false _ _ (ne_eqb _ _ is_open) ∙ pick-false _ _ (le-ltb _ _ enough) ∙ pick_true _ _ at-number ∙ pick-false _ _ (le-ltb _ _ in_time)
 
         pub followed-on : 6 < L - (5 + 6 * k) → followed (open_with L k t) from number count stamp
-            ≡ record { reception = open_with L (suc k) stamp; at = region_at from + (5 + 6 * k); start = 2; count = 6; outcome = Taken from }
+            ≡ record { reception = open_with L (suc k) stamp; at = region_at from + (5 + 6 * k); start = 2; count = 6; outcome = Ok (Taken from) }
         unfolding taken_step left_of done_of
         followed-on h = followed-taken ∙ pick_true _ _ (lt-ltb _ _ h) ∙ rw (add-one k)
 
         pub followed-last : L - (5 + 6 * k) ≤ 6 → followed (open_with L k t) from number count stamp
-            ≡ record { reception = closed; at = region_at from + (5 + 6 * k); start = 2; count = L - (5 + 6 * k); outcome = Train from L }
+            ≡ record { reception = closed; at = region_at from + (5 + 6 * k); start = 2; count = L - (5 + 6 * k); outcome = Ok (Train from L) }
         unfolding taken_step left_of done_of
         followed-last h = followed-taken ∙ pick-false _ _ (le-ltb _ _ h)
 

@@ -1,14 +1,13 @@
 -- What is known of every judged frame, by its identifier and its bytes: what one has that checks 2 to 10 let through, and which check one fails that they refuse.
-use Rattle.std.proofs.Common.{◌≡◌, ℕ, ◌/◌, ◌%◌, ◌≤◌, Bool, false, ◌≢◌, List, length, get_or, refl, subst, arith, lit≤, ltb-false, ltb-true, eqb-true}
+use Rattle.std.proofs.Common.{◌≡◌, ℕ, ◌/◌, ◌%◌, ◌≤◌, Bool, false, ◌≢◌, List, length, get_or, refl, subst, arith, lit≤, ltb-false, ltb-true, eqb-true, Result, Ok, Err}
 use borrow.Author.Tests.{eqb-false}
 use Rattle.identifiers.specs.Refusals.{number_of}
 use Rattle.identifiers.specs.declared.refusal.Refusal.{Refusal}
 use Rattle.identifiers.proofs.LawsChoice.{Holds, by-test}
 use Rattle.readings.specs.declared.position.Position.{Position}
 use Rattle.receiver.specs.declared.addressing.Addressing.{Addressing}
-use Rattle.receiver.specs.declared.addressing.Addressing.TheVariants as addressing
 use Rattle.receiver.specs.declared.frame.Judged.{Judged}
-use Rattle.receiver.specs.declared.frame.Judged.TheVariants.{Refused, Single, First, OverLong, Consecutive}
+use Rattle.receiver.specs.declared.frame.Judged.TheVariants.{Single, First, OverLong, Consecutive}
 use Rattle.receiver.specs.Addressings.{addressing_of}
 use Rattle.receiver.specs.Frames.{single_of, first_length, first_of, carried_of, judged_from, judged_of}
 use Rattle.receiver.specs.Wire.{Addressed, IsSingle, IsFirst, IsOverLong, IsConsecutive}
@@ -16,18 +15,18 @@ use Rattle.receiver.specs.Names.{no_second, single_of_none, single_over_six, sin
 use Rattle.receiver.proofs.LawsAddressings.{FairAddressing, fair-addressing, misaddressed-number}
 
 -- what is known of a frame that is judged so
-abbrev pub Fair : Position → ℕ → ℕ → List ℕ → Judged → Type 0
-Fair own unit n bytes (Refused why) = Names own unit n bytes why
-Fair own unit n bytes (Single p functional L) = Addressed own unit n bytes p functional × IsSingle bytes L
-Fair own unit n bytes (First p L) = Addressed own unit n bytes p false × IsFirst bytes L
-Fair own unit n bytes (OverLong p) = Addressed own unit n bytes p false × IsOverLong bytes
-Fair own unit n bytes (Consecutive p number) = Addressed own unit n bytes p false × IsConsecutive bytes number
+abbrev pub Fair : Position → ℕ → ℕ → List ℕ → Result Judged Refusal → Type 0
+Fair own unit n bytes (Err why) = Names own unit n bytes why
+Fair own unit n bytes (Ok (Single p functional L)) = Addressed own unit n bytes p functional × IsSingle bytes L
+Fair own unit n bytes (Ok (First p L)) = Addressed own unit n bytes p false × IsFirst bytes L
+Fair own unit n bytes (Ok (OverLong p)) = Addressed own unit n bytes p false × IsOverLong bytes
+Fair own unit n bytes (Ok (Consecutive p number)) = Addressed own unit n bytes p false × IsConsecutive bytes number
 
 module _ (own : Position) (unit n : ℕ) (bytes : List ℕ) where
-  abbrev Judges : Judged → Type 0
+  abbrev Judges : Result Judged Refusal → Type 0
   Judges j = Holds (Fair own unit n bytes) j
 
-  refused : {why : Refusal} → Names own unit n bytes why → Judges (Refused why)
+  refused : {why : Refusal} → Names own unit n bytes why → Judges (Err why)
   refused x = record { holds = x }
 
   -- ---- what a frame that passes has, and which check one fails that does not
@@ -65,17 +64,17 @@ module _ (own : Position) (unit n : ℕ) (bytes : List ℕ) where
       (λ k. by-test _ (λ l. refused (names_10 b two (eqb-true _ _ l)))
       (λ l. refused (names_9 b (no_kind two refl (high_half (eqb-false _ _ i) (eqb-false _ _ j) (eqb-false _ _ k) (eqb-false _ _ l))))))))))
 
-  fair-from : (a : Addressing) → FairAddressing own unit n bytes a → Fair own unit n bytes (judged_from bytes a)
+  fair-from : (a : Result Addressing Refusal) → FairAddressing own unit n bytes a → Fair own unit n bytes (judged_from bytes a)
   unfolding judged_from
-  fair-from (addressing.Refused why) x = misaddressed x
-  fair-from (addressing.From p functional) x = (fair-carried p functional x).holds
+  fair-from (Err why) x = misaddressed x
+  fair-from (Ok a) x = (fair-carried a.from a.functional x).holds
 
-  pub fair : (j : Judged) → judged_of own unit n bytes ≡ j → Fair own unit n bytes j
+  pub fair : (j : Result Judged Refusal) → judged_of own unit n bytes ≡ j → Fair own unit n bytes j
   unfolding judged_of
   fair j e = subst (Fair own unit n bytes) e (fair-from _ (fair-addressing own unit n bytes (addressing_of own unit n bytes) refl))
 
   -- what is refused so has a number from 2 to 10
-  pub refused-number : (why : Refusal) → judged_of own unit n bytes ≡ Refused why → (2 ≤ number_of why) × (number_of why ≤ 10)
+  pub refused-number : (why : Refusal) → judged_of own unit n bytes ≡ Err why → (2 ≤ number_of why) × (number_of why ≤ 10)
   refused-number why e = by (fair _ e)
     where
       by : {why : Refusal} → Names own unit n bytes why → (2 ≤ number_of why) × (number_of why ≤ 10)

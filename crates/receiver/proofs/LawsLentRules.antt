@@ -1,14 +1,15 @@
 -- The rules of a lent node, as they are asked: own position, unit, then each reception; and what they give.
-use Rattle.std.proofs.Common.{◌≡◌, ℕ, ◌<◌, ◌≤◌, Bool, true, false, leb, sym, refl, ap, ◌∙◌, arith, le-leb, leb-true}
-use borrow.Author.Tests.{lt-leb}
+use Prim.Native.Nat.{suc}
+use Rattle.std.specs.List.{list_all, range_with_len}
+use Rattle.std.proofs.Common.{◌≡◌, ℕ, ◌<◌, ◌≤◌, ◌&&◌, Bool, true, false, leb, sym, refl, ap, ◌∙◌, arith, leb-true}
 use Rattle.identifiers.specs.Choice.{both}
 use Rattle.identifiers.specs.Below.{all_below}
-use Rattle.identifiers.proofs.LawsChoice.{both_true, both_false, stop, so}
-use Rattle.identifiers.proofs.LawsBelow.{all-at, all-fails, all_both}
+use Rattle.identifiers.proofs.LawsChoice.{both_true, both_false}
+use Rattle.identifiers.proofs.LawsBelow.{all_none, all-suc, all-at, all_both}
 use Rattle.receiver.specs.declared.reception.Reception.{Reception}
 use Rattle.receiver.specs.Receptions.{sound_reception}
 use Rattle.receiver.specs.Nodes.{Node, reception_at, sound_node}
-use Rattle.receiver.specs.Lent.{in_bytes, bytes_in, sound_lent}
+use Rattle.receiver.specs.Lent.{in_bytes, bytes_in, keeps, sound_lent}
 
 -- ---- the rules, as they are asked: own position, unit, then each reception
 asked-in-turn : (unit bytes low high sound : Bool) → both (both unit bytes) (both low (both high sound)) ≡ both low (both high (both unit (both bytes sound)))
@@ -17,31 +18,42 @@ asked-in-turn true true low high sound = refl
 asked-in-turn true false low high sound = sym (ap (both low) (both_false high) ∙ both_false low)
 asked-in-turn false bytes low high sound = sym (ap (both low) (both_false high) ∙ both_false low)
 
-module _ (n : Node) where
-  abbrev pub keeps : ℕ → Bool
-  keeps p = both (in_bytes (reception_at n p)) (sound_reception (reception_at n p))
+four-tests : (a b c d : Bool) → ((a && b) && c) && d ≡ both a (both b (both c d))
+unfolding both
+four-tests true true true d = refl
+four-tests true true false d = refl
+four-tests true false c d = refl
+four-tests false b c d = refl
 
-  pub by_tests : sound_lent n ≡ both (leb 1 n.own) (both (leb n.own 5) (both (leb n.unit 255) (all_below keeps 6)))
+six-tests : (a b c d e f : Bool) → a && (b && (c && (d && (e && (f && true))))) ≡ both (both (both (both (both a b) c) d) e) f
+unfolding both
+six-tests true true true true true true = refl
+six-tests true true true true true false = refl
+six-tests true true true true false f = refl
+six-tests true true true false e f = refl
+six-tests true true false d e f = refl
+six-tests true false c d e f = refl
+six-tests false b c d e f = refl
+
+module _ (n : Node) where
+  pub by_tests : sound_lent n ≡ both (leb 1 n.own) (both (leb n.own 5) (both (leb n.unit 255) (all_below (keeps n) 6)))
   unfolding sound_lent bytes_in sound_node
   by_tests =
       asked-in-turn (leb n.unit 255) (all_below (λ p. in_bytes (reception_at n p)) 6) (leb 1 n.own) (leb n.own 5) (all_below (λ p. sound_reception (reception_at n p)) 6)
       ∙ ap (λ (b : Bool). both (leb 1 n.own) (both (leb n.own 5) (both (leb n.unit 255) b))) (all_both (λ p. in_bytes (reception_at n p)) (λ p. sound_reception (reception_at n p)) 6)
 
-  -- one test that fails breaks them
-  pub own-under : n.own < 1 → false ≡ sound_lent n
-  own-under h = stop _ (lt-leb _ _ h) ∙ sym by_tests
+  more : (k : ℕ) {b : Bool} → all_below (keeps n) k ≡ b → all_below (keeps n) (suc k) ≡ both b (keeps n k)
+  more k e = all-suc (keeps n) k ∙ ap (λ (t : Bool). both t (keeps n k)) e
 
-  pub own-over : 5 < n.own → false ≡ sound_lent n
-  own-over h = sym (by_tests ∙ ap (both _) (sym (stop _ (lt-leb _ _ h))) ∙ both_false _)
+  six : list_all (keeps n) (range_with_len 0 6) ≡ all_below (keeps n) 6
+  unfolding both
+  six =
+      six-tests (keeps n 0) (keeps n 1) (keeps n 2) (keeps n 3) (keeps n 4) (keeps n 5)
+      ∙ sym (more 5 (more 4 (more 3 (more 2 (more 1 (more 0 (all_none (keeps n))))))))
 
-  pub unit_over : 255 < n.unit → false ≡ sound_lent n
-  unit_over h = sym (by_tests ∙ ap (both _) (ap (both _) (sym (stop _ (lt-leb _ _ h))) ∙ both_false _) ∙ both_false _)
-
-  pub reception-breaks : (p : ℕ) → p < 6 → keeps p ≡ false → false ≡ sound_lent n
-  reception-breaks p l h = sym (by_tests ∙ ap (both _) (ap (both _) (ap (both _) (all-fails keeps p 6 l h) ∙ both_false _) ∙ both_false _) ∙ both_false _)
-
-  pub all-kept : 1 ≤ n.own → n.own ≤ 5 → n.unit ≤ 255 → all_below keeps 6 ≡ true → true ≡ sound_lent n
-  all-kept a b c d = so (le-leb _ _ a) (so (le-leb _ _ b) (so (le-leb _ _ c) (sym d))) ∙ sym by_tests
+  -- so the code asks
+  pub as-asked : ((leb 1 n.own && leb n.own 5) && leb n.unit 255) && list_all (keeps n) (range_with_len 0 6) ≡ sound_lent n
+  as-asked = ap (λ (b : Bool). ((leb 1 n.own && leb n.own 5) && leb n.unit 255) && b) six ∙ four-tests _ _ _ _ ∙ sym by_tests
 
   module _ (h : sound_lent n ≡ true) where
     pub lent-bytes : bytes_in n ≡ true

@@ -1,15 +1,13 @@
 -- A node with one reception stored; a fresh node; taking an address, one law an outcome: 1, 15, the same position, a new one.
+use Rattle.std.specs.Prelude.{Ok, Some, None, Err}
 use Rattle.std.proofs.Common.{◌≡◌, ℕ, ◌<◌, ◌≤◌, true, false, ◌≢◌, ◌⊎◌, List, length, refl, ap, ◌∙◌, length-set, get_or-set_other, get_or-set_same, eq-eqb, ne_eqb}
 use lib.ListN.{length-replicate, get_or-replicate}
 use lib.Seq.{set-get_or}
 use Rattle.identifiers.specs.Refusals.{refusal}
 use Rattle.identifiers.specs.declared.refusal.Refusal.{Refusal}
-use Rattle.identifiers.specs.declared.answer.Answer.TheVariants.{Done}
 use Rattle.identifiers.proofs.LawsChoice.{pick_true, pick-false}
 use Rattle.readings.specs.Positions.{place_of, trailer_at, taken_after}
 use Rattle.readings.specs.declared.position.Position.{Position}
-use Rattle.readings.specs.declared.position.Vehicle.TheVariants.{At, NoVehicle}
-use Rattle.readings.specs.declared.position.AddressTaken.TheVariants.{Own, Refused}
 use Rattle.readings.proofs.LawsPositions.{trailer-back, trailer-no, after-15}
 use Rattle.receiver.specs.declared.reception.Reception.{Reception}
 use Rattle.receiver.specs.Receptions.{closed}
@@ -63,16 +61,16 @@ module _ (own unit : ℕ) where
   fresh-closed p h = get_or-replicate 6 p closed closed h
 
   -- the maker gives one where the position is a trailer's
-  pub made-at : {p : Position} → trailer_at own ≡ At p → fresh_of own unit ≡ done (fresh_node own unit)
+  pub made-at : {p : Position} → trailer_at own ≡ Some p → fresh_of own unit ≡ done (fresh_node own unit)
   unfolding fresh_of made_at
   made-at e = ap (made_at (fresh_node own unit)) e
 
-  pub made_none : trailer_at own ≡ NoVehicle → fresh_of own unit ≡ unchanged (fresh_node own unit) (refusal 1)
+  pub made_none : trailer_at own ≡ None → fresh_of own unit ≡ unchanged (fresh_node own unit) (refusal 1)
   unfolding fresh_of made_at
   made_none e = ap (made_at (fresh_node own unit)) e
 
 -- the makers give one: at any position 1 to 5, and at position 1
-pub made-fresh : (own : Position) (unit : ℕ) → 1 ≤ place_of own → fresh_of (place_of own) unit ≡ record { node = fresh_node (place_of own) unit; answer = Done }
+pub made-fresh : (own : Position) (unit : ℕ) → 1 ≤ place_of own → fresh_of (place_of own) unit ≡ record { node = fresh_node (place_of own) unit; answer = (Ok tt) }
 unfolding done
 made-fresh own unit h = made-at (place_of own) unit (trailer-back own h)
 
@@ -92,11 +90,11 @@ address-1 n source h = pick-false _ _ h
 
 module _ (n : Node) (source : ℕ) (sound : sound_node n ≡ true) where
   -- 15 leaves all as found
-  pub address-15 : (why : Refusal) → taken_after source ≡ Refused why → taken_by n source ≡ unchanged n (refusal 15)
+  pub address-15 : (why : Refusal) → taken_after source ≡ Err why → taken_by n source ≡ unchanged n (refusal 15)
   unfolding taken_by taken_to
   address-15 why e = pick_true _ _ sound ∙ ap (taken_to n) e ∙ ap (unchanged n) (after-15 source why e)
 
-  module _ (p : Position) (e : taken_after source ≡ Own p) where
+  module _ (p : Position) (e : taken_after source ≡ Ok p) where
     -- "the same one changes nothing"
     pub same_position : place_of p ≡ n.own → taken_by n source ≡ done n
     unfolding taken_by taken_to

@@ -1,16 +1,17 @@
 -- What each frame of a cut message and of flow control is on the wire, and that it is addressed as document 01 says.
-use Rattle.std.proofs.Common.{◌≡◌, ℕ, suc, ◌+◌, ◌-◌, ◌*◌, ◌%◌, ◌<◌, ◌≤◌, false, ◌≢◌, List, [], ◌∷◌, ◌++◌, length, take, drop, replicate, sym, refl, ap, ◌∙◌, arith, lit<, lit≤, length-take, length-take-le, ne_eqb, le-leb}
+use Rattle.std.specs.Prelude.{Ok}
+use Rattle.std.proofs.Common.{◌≡◌, ℕ, suc, ◌+◌, ◌-◌, ◌*◌, ◌%◌, ◌<◌, ◌≤◌, false, ◌≢◌, List, [], ◌∷◌, ◌++◌, length, take, drop, replicate, sym, refl, ap, ◌∙◌, arith, lit<, lit≤, length-take, length-take-le, ne_eqb, le-leb, Result, Ok, Err, length-append}
 use borrow.Author.Tests.{lt-leb}
 use Rattle.identifiers.specs.Choice.{pick}
 use Rattle.identifiers.specs.Bytes.{written}
+use Rattle.identifiers.specs.Refusals.{refusal}
 use Rattle.identifiers.specs.Identifiers.{formula, reserved_bit, fields_of, written_as}
 use Rattle.identifiers.specs.declared.identifier.Identifier.{Identifier}
-use Rattle.identifiers.specs.declared.identifier.IdentifierWritten.TheVariants as number
-use Rattle.identifiers.specs.declared.answer.Answer.TheVariants.{Done}
 use Rattle.identifiers.proofs.LawsChoice.{pick_true, pick-false, right-decides}
-use Rattle.identifiers.proofs.LawsBytes.{take-written}
+use Rattle.identifiers.proofs.LawsBytes.{take-written, written-append}
 use Rattle.identifiers.proofs.LawsInverse.{Widths, formula-range, formula-reserved, formula-fields, write-number}
-use Rattle.readings.specs.Positions.{place_of}
+use Rattle.identifiers.specs.declared.refusal.Refusal.{Refusal}
+use Rattle.readings.specs.Positions.{place_of, address_of}
 use Rattle.readings.specs.declared.position.Position.{Position}
 use Rattle.readings.proofs.LawsPositions.{place-back, address-byte}
 use Rattle.receiver.specs.declared.cutter.FrameCut.{FrameCut}
@@ -27,11 +28,17 @@ module _ (sender receiver : Position) where
   abbrev pub identifier_to : ℕ
   identifier_to = formula (physical_to sender receiver)
 
-  is-number : written_as (physical_to sender receiver) ≡ number.Number identifier_to
+  is-number : written_as (physical_to sender receiver) ≡ Ok identifier_to
   unfolding physical_to
   is-number = write-number (physical_to sender receiver) (lit≤ tt) (lit≤ tt) (lit≤ tt)
 
-  framed_is : (count : ℕ) (bytes : List ℕ) → framed sender receiver count bytes ≡ record { answer = Done; identifier = identifier_to; length = count; «data» = bytes }
+  -- what the writer gives for it, whatever its addresses are called
+  pub wrote : {to from : ℕ} {w : Result ℕ Refusal} → to ≡ address_of receiver → from ≡ address_of sender
+      → w ≡ written_as (record { priority = 6; reserved = 0; data_page = 0; format = 206; specific = to; source = from }) → w ≡ Ok identifier_to
+  unfolding physical_to
+  wrote p q h = h ∙ rw (p, q) is-number
+
+  framed_is : (count : ℕ) (bytes : List ℕ) → framed sender receiver count bytes ≡ Ok (record { identifier = identifier_to; length = count; «data» = bytes })
   unfolding framed framed_as
   framed_is count bytes = ap (framed_as count bytes) is-number
 
@@ -42,13 +49,23 @@ module _ (sender receiver : Position) where
   headed-wire head bytes stamp h =
       let all : List ℕ = head ++ bytes in
       let l : 0 + length all ≡ length all = omega arith in
-      ap (λ (c : FrameCut). on_wire c stamp) (framed_is (length (head ++ bytes)) (written (replicate 8 0) 0 (head ++ bytes)))
+      ap (λ (c : Result FrameCut Refusal). on_wire c stamp) (framed_is (length (head ++ bytes)) (written (replicate 8 0) 0 (head ++ bytes)))
       ∙ ap (λ (l : List ℕ). record { identifier = identifier_to; bytes = l; stamp = stamp }) (rw l at (take-written (replicate 8 0) 0 all (omega arith)))
 
-  -- it is no refusal
-  pub headed-done : (head bytes : List ℕ) → (headed sender receiver head bytes).answer ≡ Done
+  -- its number, and the head stored and then the bytes
+  pub headed-so : (head bytes : List ℕ) {n : ℕ} {first after : List ℕ} → ◌≡◌ {A = Result ℕ Refusal} (Ok n) (Ok identifier_to) → first ≡ written (replicate 8 0) 0 head → after ≡ written first (length head) bytes
+      → Ok (record { identifier = n; length = length head + length bytes; «data» = after }) ≡ headed sender receiver head bytes
   unfolding headed
-  headed-done head bytes = ap (λ (c : FrameCut). c.answer) (framed_is (length (head ++ bytes)) (written (replicate 8 0) 0 (head ++ bytes)))
+  headed-so head bytes {n} {first} {after} i e f =
+      let same : n ≡ identifier_to = cc in
+      let l : 0 + length head ≡ length head = omega arith in
+      let whole : after ≡ written (replicate 8 0) 0 (head ++ bytes) = f ∙ ap (λ (l : List ℕ). written l (length head) bytes) e ∙ sym (rw l at (written-append (replicate 8 0) 0 head bytes)) in
+      rw (same, whole, ← length-append head bytes) (sym (framed_is (length (head ++ bytes)) (written (replicate 8 0) 0 (head ++ bytes))))
+
+  -- it is no refusal
+  pub headed-done : (head bytes : List ℕ) → headed sender receiver head bytes ≡ Err (refusal 16) → ⊥
+  unfolding headed
+  headed-done head bytes e = let f = framed_is (length (head ++ bytes)) (written (replicate 8 0) 0 (head ++ bytes)) in cc
 
 -- ---- a frame of a message from one position to another
 module _ (sender receiver : Position) (unit : ℕ) (m : List ℕ) (other : place_of sender ≢ place_of receiver) where
@@ -66,7 +83,7 @@ module _ (sender receiver : Position) (unit : ℕ) (m : List ℕ) (other : place
 
   piece-wire : (k stamp : ℕ) (head bytes : List ℕ) → k < frame_count (length m) → piece_of sender receiver unit m k ≡ headed sender receiver (unit ∷ head) bytes → length (unit ∷ head ++ bytes) ≤ 8
       → cut_wire k stamp ≡ wire (head ++ bytes) stamp
-  piece-wire k stamp head bytes h e l = ap (λ (c : FrameCut). on_wire c stamp) (cut-is k h ∙ e) ∙ headed-wire sender receiver (unit ∷ head) bytes stamp l
+  piece-wire k stamp head bytes h e l = ap (λ (c : Result FrameCut Refusal). on_wire c stamp) (cut-is k h ∙ e) ∙ headed-wire sender receiver (unit ∷ head) bytes stamp l
 
   -- "one single frame up to 6 bytes"
   pub single-wire : (stamp : ℕ) → 1 ≤ length m → length m ≤ 6 → cut_wire 0 stamp ≡ wire (length m ∷ m) stamp
@@ -99,7 +116,7 @@ module _ (sender receiver : Position) (unit stamp : ℕ) (other : place_of sende
   control-is : (control : Control) → on_wire (flow_control_of control (place_of sender) (place_of receiver) unit) stamp ≡ record { identifier = identifier_to sender receiver; bytes = unit ∷ control_byte control ∷ 0 ∷ 0 ∷ []; stamp = stamp }
   unfolding flow_control_of
   control-is control =
-      ap (λ (c : FrameCut). on_wire c stamp) (pick-false _ _ (ne_eqb _ _ other) ∙ between-both _ _ _ sender receiver (place-back sender) (place-back receiver))
+      ap (λ (c : Result FrameCut Refusal). on_wire c stamp) (pick-false _ _ (ne_eqb _ _ other) ∙ between-both _ _ _ sender receiver (place-back sender) (place-back receiver))
       ∙ headed-wire sender receiver (unit ∷ []) (control_byte control ∷ 0 ∷ 0 ∷ []) stamp (omega arith)
 
   pub continue-wire : on_wire (flow_control_of Continue (place_of sender) (place_of receiver) unit) stamp ≡ record { identifier = identifier_to sender receiver; bytes = unit ∷ 0x30 ∷ 0 ∷ 0 ∷ []; stamp = stamp }

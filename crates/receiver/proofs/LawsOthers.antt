@@ -1,20 +1,20 @@
 -- A step leaves the reception of every other vehicle, and its part of the buffer.
-use Rattle.std.proofs.Common.{◌≡◌, ℕ, ◌+◌, ◌*◌, ◌<◌, ◌≤◌, ◌≢◌, List, [], ◌∷◌, length, take, drop, sym, ap, ◌∙◌, arith, length-drop, length-take-le}
+use Rattle.std.proofs.Common.{◌≡◌, ℕ, ◌+◌, ◌*◌, ◌<◌, ◌≤◌, ◌≢◌, List, [], ◌∷◌, length, take, drop, sym, ap, ◌∙◌, arith, length-drop, length-take-le, Result}
 use native.Mathlib.Decide.{dec_lt}
 use Rattle.identifiers.specs.Bytes.{written}
 use Rattle.identifiers.proofs.LawsBytes.{written_none}
 use Rattle.identifiers.proofs.LawsParts.{part-before, part-behind}
+use Rattle.identifiers.specs.declared.refusal.Refusal.{Refusal}
 use Rattle.readings.specs.Positions.{place_of}
 use Rattle.readings.specs.declared.position.Position.{Position}
 use Rattle.readings.proofs.LawsPositions.{places-differ}
 use Rattle.receiver.specs.declared.reception.Reception.{Reception}
 use Rattle.receiver.specs.declared.outcome.Outcome.{Outcome}
 use Rattle.receiver.specs.Receptions.{region_at}
-use Rattle.receiver.specs.Steps.{Step, written_by}
+use Rattle.receiver.specs.Steps.{Step, written_by, Gives}
 use Rattle.receiver.specs.Nodes.{Node, reception_at, with_reception}
 use Rattle.receiver.proofs.LawsNodes.{put_back, reception-other}
 use Rattle.receiver.proofs.LawsSteps.{Fitted}
-use Rattle.receiver.proofs.LawsGiven.{Gives}
 
 -- position p owns 255 bytes from 256p on: bytes written there leave the part of q
 module _ (buffer : List ℕ) (p q at : ℕ) (differ : q ≢ p) where
@@ -35,7 +35,7 @@ pub record Unmoved (q : Position) (n : Node) (buffer bytes : List ℕ) (place : 
 
 module _ (q : Position) (n : Node) (buffer bytes : List ℕ) where
   -- by a step that keeps the reception and the buffer every vehicle does
-  pub unmoved-left : (place : ℕ) {s : Step} {o : Outcome} → Gives buffer bytes s (reception_at n place) o buffer → Unmoved q n buffer bytes place s
+  pub unmoved-left : (place : ℕ) {s : Step} {o : Result Outcome Refusal} → Gives buffer bytes s (reception_at n place) o buffer → Unmoved q n buffer bytes place s
   unmoved-left place g = record {
     reception = ap (λ (r : Reception). reception_at (with_reception n place r) (place_of q)) g.reception ∙ ap (λ (m : Node). reception_at m (place_of q)) (put_back n place);
     part = λ m l. ap (λ (b : List ℕ). take m (drop (region_at q) b)) g.leaves;

@@ -1,16 +1,16 @@
 -- What the cutter's functions go by: how many frames a message has, where one starts, what its data are, and between which positions.
-use Rattle.std.proofs.Common.{◌≡◌, ℕ, ◌+◌, ◌-◌, ◌*◌, ◌/◌, ◌<◌, ◌≤◌, Bool, true, false, eqb, ltb, leb, List, [], ◌∷◌, length, take, drop, replicate, sym, refl, ap, ◌∙◌, ap₂, arith, length-drop, length-take-le, take_all, ltb-false, le-ltb, ne_eqb, le-leb}
+use Rattle.readings.specs.Positions.{position_at}
+use Rattle.identifiers.specs.Refusals.{refusal}
+use Rattle.receiver.specs.declared.cutter.Way.{Way}
+use Rattle.std.specs.Prelude.{Option, Some, None}
+use Rattle.std.proofs.Common.{◌≡◌, ℕ, ◌+◌, ◌-◌, ◌*◌, ◌/◌, ◌<◌, ◌≤◌, Bool, true, false, eqb, ltb, leb, sym, refl, ap, ◌∙◌, arith, ltb-false, le-ltb, ne_eqb, le-leb, Result, Ok, Err, take, drop, take_all, length-drop, List, length}
 use borrow.Author.Tests.{eqb-false, lt-leb}
-use lib.Seq.{take-length}
 use Rattle.identifiers.specs.Choice.{pick, either}
-use Rattle.identifiers.specs.Bytes.{written}
 use Rattle.identifiers.proofs.LawsChoice.{pick_true, pick-false, right-decides, either-false}
-use Rattle.identifiers.proofs.LawsBytes.{written_none, written-front}
+use Rattle.identifiers.specs.declared.refusal.Refusal.{Refusal}
 use Rattle.readings.specs.declared.position.Position.{Position}
-use Rattle.readings.specs.declared.position.Vehicle.{Vehicle}
-use Rattle.readings.specs.declared.position.Vehicle.TheVariants.{At, NoVehicle}
 use Rattle.receiver.specs.declared.cutter.FrameCut.{FrameCut}
-use Rattle.receiver.specs.Cuts.{frame_count, no_frame, framed, headed, between}
+use Rattle.receiver.specs.Cuts.{frame_count, no_frame, between, ways, way_of}
 
 -- ---- how many frames
 -- none for 0 or over 255 bytes, one up to 6, else a first frame and ceiling((L-5)/6) more
@@ -52,56 +52,87 @@ frames-start L k h l =
     let r : L ≤ 255 = f.1 in
     (omega arith, omega arith)
 
--- ---- what a frame carries
-pub whole_part : (m : List ℕ) → take (length m) (drop 0 m) ≡ m
-whole_part m = take-length m
+-- ---- the message bytes from a place on: all of them where they are at most six
+pub rest_whole : (m : List ℕ) (start : ℕ) → take (length m - start) (drop start m) ≡ drop start m
+rest_whole m start = take_all (length m - start) (drop start m) (rw length-drop (omega arith))
 
-pub rest_part : (m : List ℕ) (start : ℕ) → length m - start ≤ 6 → take (length m - start) (drop start m) ≡ take 6 (drop start m)
-rest_part m start h = take_all (length m - start) (drop start m) (rw length-drop (omega arith)) ∙ sym (take_all 6 (drop start m) (rw length-drop (omega arith)))
-
--- the head stands in front, and the message bytes behind it
-module _ (sender receiver : Position) (unit control : ℕ) where
-  pub headed-two : (m : List ℕ) (start count : ℕ) {after : List ℕ} → start + count ≤ length m
-      → after ≡ written (unit ∷ control ∷ 0 ∷ 0 ∷ 0 ∷ 0 ∷ 0 ∷ 0 ∷ []) 2 (take count (drop start m))
-      → framed sender receiver (2 + count) after ≡ headed sender receiver (unit ∷ control ∷ []) (take count (drop start m))
-  unfolding headed
-  headed-two m start count h e =
-      let c : List ℕ = take count (drop start m) in
-      let l : 2 + count ≡ length (unit ∷ control ∷ c) = omega (arith, length-take-le count (drop start m) (rw length-drop (omega arith))) in
-      ap₂ (framed sender receiver) l (e ∙ sym (written-front (0 ∷ 0 ∷ []) (unit ∷ control ∷ []) (replicate 6 0) c refl))
-
-  pub headed-three : (third : ℕ) (m : List ℕ) {after : List ℕ} → 7 ≤ length m
-      → after ≡ written (unit ∷ control ∷ third ∷ 0 ∷ 0 ∷ 0 ∷ 0 ∷ 0 ∷ []) 3 (take 5 (drop 0 m))
-      → framed sender receiver 8 after ≡ headed sender receiver (unit ∷ control ∷ third ∷ []) (take 5 m)
-  unfolding headed
-  headed-three third m h e =
-      let l : 8 ≡ length (unit ∷ control ∷ third ∷ take 5 m) = omega (arith, length-take-le 5 m (omega arith)) in
-      ap₂ (framed sender receiver) l (e ∙ sym (written-front (0 ∷ 0 ∷ 0 ∷ []) (unit ∷ control ∷ third ∷ []) (replicate 5 0) (take 5 m) refl))
-
-  -- a flow control: the unit, the control and two zeros
-  pub headed-control : framed sender receiver 4 (unit ∷ control ∷ 0 ∷ 0 ∷ 0 ∷ 0 ∷ 0 ∷ 0 ∷ []) ≡ headed sender receiver (unit ∷ []) (control ∷ 0 ∷ 0 ∷ [])
-  unfolding headed
-  headed-control =
-      ap (framed sender receiver 4) (sym (written-front (0 ∷ 0 ∷ 0 ∷ 0 ∷ []) (unit ∷ control ∷ 0 ∷ 0 ∷ []) (replicate 4 0) [] refl ∙ written_none (unit ∷ control ∷ 0 ∷ 0 ∷ replicate 4 0) 4))
+pub rest_short : (m : List ℕ) (start : ℕ) → length m - start ≤ 6 → take (length m - start) (drop start m) ≡ take 6 (drop start m)
+rest_short m start h = rest_whole m start ∙ sym (take_all 6 (drop start m) (rw length-drop (omega arith)))
 
 -- ---- between which positions
-pub none-else : (t : Bool) (x : FrameCut) → x ≡ no_frame → pick t no_frame x ≡ no_frame
+pub none-else : (t : Bool) (x : Result FrameCut Refusal) → x ≡ no_frame → pick t no_frame x ≡ no_frame
 unfolding pick
 none-else true x e = refl
 none-else false x e = e
 
-pub between_none : (v : Vehicle) (frame : Position → Position → FrameCut) → between v NoVehicle frame ≡ no_frame
+pub between_none : (v : Option Position) (frame : Position → Position → Result FrameCut Refusal) → between v None frame ≡ no_frame
 unfolding between
-between_none NoVehicle frame = refl
-between_none (At p) frame = refl
+between_none None frame = refl
+between_none (Some p) frame = refl
 
-pub between_first : (v w : Vehicle) (frame : Position → Position → FrameCut) → v ≡ NoVehicle → between v w frame ≡ no_frame
+pub between_first : (v w : Option Position) (frame : Position → Position → Result FrameCut Refusal) → v ≡ None → between v w frame ≡ no_frame
 unfolding between
 between_first v w frame e = rw e
 
-pub between-second : (v w : Vehicle) (frame : Position → Position → FrameCut) → w ≡ NoVehicle → between v w frame ≡ no_frame
+pub between-second : (v w : Option Position) (frame : Position → Position → Result FrameCut Refusal) → w ≡ None → between v w frame ≡ no_frame
 between-second v w frame e = rw e (between_none v frame)
 
-pub between-both : (v w : Vehicle) (frame : Position → Position → FrameCut) (s r : Position) → v ≡ At s → w ≡ At r → between v w frame ≡ frame s r
+pub between-both : (v w : Option Position) (frame : Position → Position → Result FrameCut Refusal) (s r : Position) → v ≡ Some s → w ≡ Some r → between v w frame ≡ frame s r
 unfolding between
 between-both v w frame s r e f = rw (e, f)
+
+-- where there is a way, and where there is none
+ways-so : (v w : Option Position) (unit : ℕ) {way : Way} → ways v w unit ≡ Ok way → (way.unit ≡ unit) × ((frame : Position → Position → Result FrameCut Refusal) → between v w frame ≡ frame way.sender way.receiver)
+unfolding ways between
+ways-so (Some s) (Some r) unit {way} e =
+    let f : ◌≡◌ {A = Way} (record { sender = s; receiver = r; unit = unit }) way = cc in
+    (ap (λ (w : Way). w.unit) (sym f), λ frame. ap (λ (w : Way). frame w.sender w.receiver) f)
+ways-so (Some s) None unit e = cc
+ways-so None w unit e = cc
+
+ways-none : (v w : Option Position) (unit : ℕ) {why : Refusal} → ways v w unit ≡ Err why
+    → (Err why ≡ no_frame) × ((frame : Position → Position → Result FrameCut Refusal) → between v w frame ≡ no_frame)
+unfolding ways between no_frame
+ways-none (Some s) (Some r) unit e = cc
+ways-none (Some s) None unit e = (cc, λ frame. refl)
+ways-none None w unit e = (cc, λ frame. refl)
+
+module _ (from to unit : ℕ) where
+  abbrev Frames : Type 0
+  Frames = Position → Position → Result FrameCut Refusal
+
+  abbrev framed_by : Frames → Result FrameCut Refusal
+  framed_by frame = between (position_at from) (position_at to) frame
+
+  way-so-by : (t : Bool) {way : Way} → pick t (Err (refusal 16)) (ways (position_at from) (position_at to) unit) ≡ Ok way
+      → (t ≡ false) × (way.unit ≡ unit) × ((frame : Frames) → framed_by frame ≡ frame way.sender way.receiver)
+  unfolding pick
+  way-so-by true e = cc
+  way-so-by false e = let s = ways-so (position_at from) (position_at to) unit e in (refl, s.0, s.1)
+
+  way-none-by : (t : Bool) {why : Refusal} → pick t (Err (refusal 16)) (ways (position_at from) (position_at to) unit) ≡ Err why
+      → (Err why ≡ no_frame) × ((past : Bool) (frame : Frames) → pick (either t past) no_frame (framed_by frame) ≡ no_frame)
+  unfolding pick either no_frame
+  way-none-by true e = (cc, λ past frame. refl)
+  way-none-by false e = let n = ways-none (position_at from) (position_at to) unit e in (n.0, λ past frame. none-else past _ (n.1 frame))
+
+  -- the two positions are other ones, and what is framed goes from the one to the other
+  pub way-so : {way : Way} → way_of from to unit ≡ Ok way → (eqb from to ≡ false) × (way.unit ≡ unit) × ((frame : Frames) → framed_by frame ≡ frame way.sender way.receiver)
+  unfolding way_of
+  way-so e = way-so-by (eqb from to) e
+
+  -- there is no frame, whatever else is tested
+  pub way_none : {why : Refusal} → way_of from to unit ≡ Err why
+      → (Err why ≡ no_frame) × ((past : Bool) (frame : Frames) → pick (either (eqb from to) past) no_frame (framed_by frame) ≡ no_frame)
+  unfolding way_of
+  way_none e = way-none-by (eqb from to) e
+
+  pub way_none-alone : {why : Refusal} → way_of from to unit ≡ Err why → (frame : Frames) → Err why ≡ pick (eqb from to) no_frame (framed_by frame)
+  unfolding either
+  way_none-alone e frame =
+      let n = way_none e in
+      n.0 ∙ sym (n.1 false frame) ∙ ap (λ (t : Bool). pick t no_frame (framed_by frame)) (either-none (eqb from to))
+    where
+      either-none : (t : Bool) → either t false ≡ t
+      either-none true = refl
+      either-none false = refl

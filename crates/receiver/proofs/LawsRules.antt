@@ -6,12 +6,21 @@ use Rattle.identifiers.proofs.LawsBelow.{all-at, all-each}
 use Rattle.receiver.specs.declared.reception.Reception.{Reception}
 use Rattle.receiver.specs.Receptions.{closed, open_with, sound_reception}
 use Rattle.receiver.specs.Nodes.{Node, reception_at, with_reception, sound_node, fresh_node}
+use Rattle.receiver.specs.Lent.{in_bytes}
 use Rattle.receiver.proofs.LawsNodes.{fresh-closed}
 
 -- ---- of one reception, and of each of a node's
 pub sound-closed : sound_reception closed ≡ true
 unfolding sound_reception pick both
 sound-closed = refl
+
+pub closed-bytes : in_bytes closed ≡ true
+unfolding in_bytes both
+closed-bytes = refl
+
+pub open-bytes : (L k t : ℕ) → L ≤ 255 → 5 + 6 * k < L → in_bytes (open_with L k t) ≡ true
+unfolding in_bytes
+open-bytes L k t a b = let c : k ≤ 255 = omega arith in sym (so (le-leb _ _ a) (sym (le-leb _ _ c)))
 
 pub sound-open : (L k t : ℕ) → 7 ≤ L → 5 + 6 * k < L → sound_reception (open_with L k t) ≡ true
 unfolding sound_reception

@@ -1,18 +1,17 @@
 -- The shown message: for every outcome the bytes that its numbers point to, and exactly as many as they say.
-use Rattle.std.proofs.Common.{◌≡◌, ℕ, ◌+◌, ◌*◌, ◌≤◌, Bool, ltb, List, length, drop, refl, ◌∙◌, arith, length-drop, length-take-le}
+use Rattle.std.specs.Prelude.{Option, Some, None}
+use Rattle.std.proofs.Common.{◌≡◌, ℕ, ◌+◌, ◌*◌, ◌≤◌, Bool, ltb, List, length, drop, refl, ◌∙◌, arith, length-drop, length-take-le, Result, Ok, Err}
 use Rattle.identifiers.specs.Choice.{pick}
 use Rattle.identifiers.specs.declared.refusal.Refusal.{Refusal}
 use Rattle.identifiers.proofs.LawsChoice.{Holds, by-test}
 use Rattle.readings.specs.Positions.{place_of}
 use Rattle.readings.specs.declared.position.Position.{Position}
-use Rattle.readings.specs.declared.position.Vehicle.{Vehicle}
-use Rattle.readings.specs.declared.position.Vehicle.TheVariants.{At, NoVehicle}
 use Rattle.readings.proofs.LawsPositions.{place-below}
 use Rattle.receiver.specs.declared.reception.Reception.{Reception}
 use Rattle.receiver.specs.declared.frame.Judged.{Judged}
 use Rattle.receiver.specs.declared.frame.Judged.TheVariants as judged
 use Rattle.receiver.specs.declared.outcome.Outcome.{Outcome}
-use Rattle.receiver.specs.declared.outcome.Outcome.TheVariants.{Refused, OverLong, Opened, Taken, Single, Train}
+use Rattle.receiver.specs.declared.outcome.Outcome.TheVariants.{OverLong, Opened, Taken, Single, Train}
 use Rattle.receiver.specs.Receptions.{closed, buffer_length, region_at}
 use Rattle.receiver.specs.Frames.{judged_of}
 use Rattle.receiver.specs.Outcomes.{due_of, nothing_told, outcome_told}
@@ -25,31 +24,31 @@ use Rattle.receiver.proofs.LawsSteps.{length-after}
 use Rattle.receiver.proofs.LawsReceived.{ready}
 
 -- what a host finds by the numbers that it is told is what is shown: for every outcome
-pub told-shown : (bytes buffer : List ℕ) (o : Outcome) → shown_of bytes buffer o ≡ told_message (outcome_told o) bytes buffer
+pub told-shown : (bytes buffer : List ℕ) (o : Result Outcome Refusal) → shown_of bytes buffer o ≡ told_message (outcome_told o) bytes buffer
 unfolding shown_of told_message outcome_told nothing_told region_at pick
-told-shown bytes buffer (Refused why) = refl
-told-shown bytes buffer (OverLong from) = refl
-told-shown bytes buffer (Opened from) = refl
-told-shown bytes buffer (Taken from) = refl
-told-shown bytes buffer (Single from functional L) = refl
-told-shown bytes buffer (Train from L) = refl
+told-shown bytes buffer (Err why) = refl
+told-shown bytes buffer (Ok (OverLong from)) = refl
+told-shown bytes buffer (Ok (Opened from)) = refl
+told-shown bytes buffer (Ok (Taken from)) = refl
+told-shown bytes buffer (Ok (Single from functional L)) = refl
+told-shown bytes buffer (Ok (Train from L)) = refl
 
 -- the control that is told is the one that is due
-pub told-due : (o : Outcome) → (outcome_told o).control ≡ due_of o
+pub told-due : (o : Result Outcome Refusal) → (outcome_told o).control ≡ due_of o
 unfolding outcome_told nothing_told due_of
-told-due (Refused why) = refl
-told-due (OverLong from) = refl
-told-due (Opened from) = refl
-told-due (Taken from) = refl
-told-due (Single from functional L) = refl
-told-due (Train from L) = refl
+told-due (Err why) = refl
+told-due (Ok (OverLong from)) = refl
+told-due (Ok (Opened from)) = refl
+told-due (Ok (Taken from)) = refl
+told-due (Ok (Single from functional L)) = refl
+told-due (Ok (Train from L)) = refl
 
 -- ---- the shown message has exactly the told length
 abbrev Shows : List ℕ → List ℕ → Step → Type 0
 Shows bytes buffer s = length (shown_of bytes buffer s.outcome) ≡ (outcome_told s.outcome).length
 
 module _ (bytes buffer : List ℕ) (room : length buffer ≡ 1536) (r : Reception) (short : r.length ≤ 255) (stamp : ℕ) where
-  shows-refused : (x : Reception) (why : Refusal) → Holds (Shows bytes buffer) (leaving x (Refused why))
+  shows-refused : (x : Reception) (why : Refusal) → Holds (Shows bytes buffer) (leaving x (Err why))
   unfolding leaving shown_of outcome_told nothing_told
   shows-refused x why = record { holds = refl }
 
@@ -63,27 +62,27 @@ module _ (bytes buffer : List ℕ) (room : length buffer ≡ 1536) (r : Receptio
       by-test _ (λ a. shows-refused r _)
       (λ a. by-test _ (λ b. shows-refused r _) (λ b. by-test _ (λ d. by-test _ (λ e. shows-refused closed _) (λ e. shows-taken from)) (λ d. shows-refused closed _)))
 
-  shows-single : (from : Position) (functional : Bool) (L : ℕ) → 2 + L ≤ length bytes → Shows bytes buffer (leaving (behind_single r functional) (Single from functional L))
+  shows-single : (from : Position) (functional : Bool) (L : ℕ) → 2 + L ≤ length bytes → Shows bytes buffer (leaving (behind_single r functional) (Ok (Single from functional L)))
   unfolding leaving shown_of outcome_told
   shows-single from functional L h =
       length-take-le L (drop 2 bytes) (rw length-drop (omega arith))
 
-  shows-step : (own : Position) (unit identifier : ℕ) (j : Judged) → Fair own unit identifier bytes j → Shows bytes buffer (step_of r j (length bytes) stamp)
+  shows-step : (own : Position) (unit identifier : ℕ) (j : Result Judged Refusal) → Fair own unit identifier bytes j → Shows bytes buffer (step_of r j (length bytes) stamp)
   unfolding step_of opened closing leaving shown_of outcome_told nothing_told
-  shows-step own unit identifier (judged.Refused why) f = refl
-  shows-step own unit identifier (judged.Single from functional L) f = shows-single from functional L f.1.room
-  shows-step own unit identifier (judged.First from L) f = refl
-  shows-step own unit identifier (judged.OverLong from) f = refl
-  shows-step own unit identifier (judged.Consecutive from number) f = (shows-followed from number).holds
+  shows-step own unit identifier (Err why) f = refl
+  shows-step own unit identifier (Ok (judged.Single from functional L)) f = shows-single from functional L f.1.room
+  shows-step own unit identifier (Ok (judged.First from L)) f = refl
+  shows-step own unit identifier (Ok (judged.OverLong from)) f = refl
+  shows-step own unit identifier (Ok (judged.Consecutive from number)) f = (shows-followed from number).holds
 
 module _ (n : Node) (buffer : List ℕ) (identifier : ℕ) (bytes : List ℕ) (stamp : ℕ) (short : (p : ℕ) → (reception_at n p).length ≤ 255) where
-  abbrev step_at : Vehicle → Step
+  abbrev step_at : Option Position → Step
   step_at v = step_by n (judged_at n identifier bytes v) bytes stamp
 
-  shown-at : (v : Vehicle) → ((own : Position) → v ≡ At own → length buffer ≡ buffer_length) → Shows bytes (written_by buffer (step_at v) bytes) (step_at v)
+  shown-at : (v : Option Position) → ((own : Position) → v ≡ Some own → length buffer ≡ buffer_length) → Shows bytes (written_by buffer (step_at v) bytes) (step_at v)
   unfolding judged_at step_by step_of leaving shown_of outcome_told nothing_told
-  shown-at NoVehicle room = refl
-  shown-at (At own) room =
+  shown-at None room = refl
+  shown-at (Some own) room =
       let j = judged_of own n.unit identifier bytes in
       shows-step bytes _ (length-after buffer _ bytes ∙ room own refl) (reception_at n (judged_place j)) (short (judged_place j)) stamp own n.unit identifier j (fair own n.unit identifier bytes j refl)
 

@@ -1,5 +1,5 @@
 -- The lent node and its buffer after a frame: where refusal 1 is given, and what every refusal leaves of the numbers and of the bytes.
-use Rattle.std.proofs.Common.{◌≡◌, ℕ, ◌<◌, Bool, true, false, leb, ◌≢◌, ◌↔◌, List, length, sym, refl, ap, ◌∙◌, arith, leb-false}
+use Rattle.std.proofs.Common.{◌≡◌, ℕ, ◌<◌, Bool, true, false, leb, ◌≢◌, ◌↔◌, List, length, sym, refl, ap, ◌∙◌, arith, leb-false, Err}
 use mathlib.Core.Bool.{false≢true}
 use borrow.Author.Tests.{lt-leb}
 use Rattle.identifiers.specs.Choice.{pick, both}
@@ -7,7 +7,6 @@ use Rattle.identifiers.specs.Below.{all_below}
 use Rattle.identifiers.specs.Refusals.{refusal}
 use Rattle.identifiers.proofs.LawsChoice.{both_false, stop}
 use Rattle.identifiers.proofs.LawsBelow.{all-not, all-fails}
-use Rattle.receiver.specs.declared.outcome.Outcome.TheVariants.{Refused}
 use Rattle.receiver.specs.Nodes.{Node, reception_at}
 use Rattle.receiver.specs.Outcomes.{outcome_told, nothing_told}
 use Rattle.receiver.specs.Receiving.{Received, received_of, buffer_after}
@@ -50,11 +49,11 @@ module _ (n : Node) (buffer : List ℕ) (identifier : ℕ) (bytes : List ℕ) (s
   as-node = received_of n buffer identifier bytes stamp
 
   abbrev refused : Received
-  refused = record { node = n; outcome = Refused (refusal 1) }
+  refused = record { node = n; outcome = Err (refusal 1) }
 
   -- ---- 1, exactly where the numbers or the buffer break the rules
   abbrev One : Bool → Type 0
-  One b = (pick b as-node refused).outcome ≡ Refused (refusal 1)
+  One b = (pick b as-node refused).outcome ≡ Err (refusal 1)
 
   only_so : (b : Bool) → bytes_in n ≡ b → One b → BrokenLent n buffer
   unfolding pick
@@ -67,7 +66,7 @@ module _ (n : Node) (buffer : List ℕ) (identifier : ℕ) (bytes : List ℕ) (s
   so-given true e (no_byte x) = ap (λ (c : Bool). (pick c as-node refused).outcome) (sym e ∙ (over-exactly n).1 x)
   so-given true e (as_every_node x) = (refused-1 n buffer identifier bytes stamp).1 x
 
-  pub lent-refused-1 : (lent_received n buffer identifier bytes stamp).outcome ≡ Refused (refusal 1) ↔ BrokenLent n buffer
+  pub lent-refused-1 : (lent_received n buffer identifier bytes stamp).outcome ≡ Err (refusal 1) ↔ BrokenLent n buffer
   unfolding lent_received
   lent-refused-1 = (only_so (bytes_in n) refl, so-given (bytes_in n) refl)
 

@@ -1,15 +1,14 @@
 -- The node as a host lends it: twenty numbers, the own position and the unit, then length, taken and last stamp of one reception after the other.
-use Rattle.std.specs.Prelude.{◌≡◌, ℕ, Bool, List, [], ◌∷◌, drop, nat_le, slice_index}
+use Rattle.std.specs.Prelude.{◌≡◌, ℕ, Bool, List, [], ◌∷◌, drop, nat_le, slice_index, Result, Ok, Err}
 use Rattle.identifiers.specs.Choice.{pick, both}
 use Rattle.identifiers.specs.Below.{all_below}
 use Rattle.identifiers.specs.Refusals.{refusal}
-use Rattle.identifiers.specs.declared.answer.Answer.{Answer}
-use Rattle.identifiers.specs.declared.answer.Answer.TheVariants as answer
+use Rattle.identifiers.specs.declared.refusal.Refusal.{Refusal}
 use Rattle.receiver.specs.declared.reception.Reception.{Reception}
-use Rattle.receiver.specs.declared.outcome.Outcome.TheVariants.{Refused}
+use Rattle.receiver.specs.declared.outcome.Outcome.{Outcome}
 use Rattle.receiver.specs.declared.outcome.OutcomeTold.{OutcomeTold}
 use Rattle.receiver.specs.Outcomes.{outcome_told}
-use Rattle.receiver.specs.Receptions.{open_with}
+use Rattle.receiver.specs.Receptions.{open_with, sound_reception}
 use Rattle.receiver.specs.Nodes.{Node, Changed, reception_at, sound_node, unchanged, taken_by}
 use Rattle.receiver.specs.Receiving.{Received, received_of, buffer_after}
 
@@ -42,9 +41,13 @@ bytes_in n = both (nat_le n.unit 255) (all_below (λ p. in_bytes (reception_at n
 unfoldable pub sound_lent : Node → Bool
 sound_lent n = both (bytes_in n) (sound_node n)
 
+-- of the reception of a position
+abbrev pub keeps : Node → ℕ → Bool
+keeps n p = both (in_bytes (reception_at n p)) (sound_reception (reception_at n p))
+
 -- a frame offered to it: 1 where a number is no byte, and else as to every node
 unfoldable pub lent_received : Node → List ℕ → ℕ → List ℕ → ℕ → Received
-lent_received n buffer identifier bytes stamp = pick (bytes_in n) (received_of n buffer identifier bytes stamp) (record { node = n; outcome = Refused (refusal 1) })
+lent_received n buffer identifier bytes stamp = pick (bytes_in n) (received_of n buffer identifier bytes stamp) (record { node = n; outcome = Err (refusal 1) })
 
 unfoldable pub lent_buffer : Node → List ℕ → ℕ → List ℕ → ℕ → List ℕ
 lent_buffer n buffer identifier bytes stamp = pick (bytes_in n) (buffer_after n buffer identifier bytes stamp) buffer
@@ -55,14 +58,20 @@ pub record Receives (numbers buffer : List ℕ) (identifier : ℕ) (bytes : List
   pub leaves : after ≡ numbers_of (lent_received (node_in numbers) buffer identifier bytes stamp).node
   pub fills : filled ≡ lent_buffer (node_in numbers) buffer identifier bytes stamp
 
+-- the same with the outcome itself
+pub record ReceivesAs (numbers buffer : List ℕ) (identifier : ℕ) (bytes : List ℕ) (stamp : ℕ) (outcome : Result Outcome Refusal) (after filled : List ℕ) : Type 0 where
+  pub answers : outcome ≡ (lent_received (node_in numbers) buffer identifier bytes stamp).outcome
+  pub leaves : after ≡ numbers_of (lent_received (node_in numbers) buffer identifier bytes stamp).node
+  pub fills : filled ≡ lent_buffer (node_in numbers) buffer identifier bytes stamp
+
 -- an address taken
 unfoldable pub lent_taken : Node → ℕ → Changed
 lent_taken n source = pick (bytes_in n) (taken_by n source) (unchanged n (refusal 1))
 
 -- "A refusal .. leaves state and buffers as found": the node is stored where it was made or changed as asked
-unfoldable pub left_by : List ℕ → Answer → Node → List ℕ
-left_by numbers (answer.Refused why) n = numbers
-left_by numbers answer.Done n = numbers_of n
+unfoldable pub left_by : List ℕ → Result (Unit {0}) Refusal → Node → List ℕ
+left_by numbers (Err why) n = numbers
+left_by numbers (Ok _) n = numbers_of n
 
 unfoldable pub stored : List ℕ → Changed → List ℕ
 stored numbers c = left_by numbers c.answer c.node

@@ -1,18 +1,13 @@
 -- The node's state and its rules, how it starts, and how it takes an address (document 01, "Identifier, vehicle, route", "Frames and trains").
-use Rattle.std.specs.Prelude.{ℕ, Bool, List, replicate, ◌==◌, nat_le, slice_index_or, slice_set}
+use Rattle.std.specs.Prelude.{ℕ, Bool, List, replicate, ◌==◌, nat_le, slice_index_or, slice_set, Result, Ok, Err, Option, Some, None}
 use Rattle.identifiers.specs.Choice.{pick, both}
 use Rattle.identifiers.specs.Below.{all_below}
 use Rattle.identifiers.specs.Refusals.{refusal}
 use Rattle.identifiers.specs.declared.refusal.Refusal.{Refusal}
-use Rattle.identifiers.specs.declared.answer.Answer.{Answer}
-use Rattle.identifiers.specs.declared.answer.Answer.TheVariants.{Done, Refused}
 use Rattle.readings.specs.Positions.{place_of, trailer_at, taken_after}
-use Rattle.readings.specs.declared.position.Vehicle.{Vehicle}
-use Rattle.readings.specs.declared.position.Vehicle.TheVariants.{At, NoVehicle}
-use Rattle.readings.specs.declared.position.AddressTaken.{AddressTaken}
-use Rattle.readings.specs.declared.position.AddressTaken.TheVariants as address
 use Rattle.receiver.specs.declared.reception.Reception.{Reception}
 use Rattle.receiver.specs.Receptions.{closed, sound_reception}
+use Rattle.readings.specs.declared.position.Position.{Position}
 
 pub record Node : Type 0 where
   pub own : ℕ
@@ -22,7 +17,7 @@ pub record Node : Type 0 where
 -- a node, and whether it was made or changed as asked
 pub record Changed : Type 0 where
   pub node : Node
-  pub answer : Answer
+  pub answer : Result (Unit {0}) Refusal
 
 -- "There is one reception per vehicle, positions 0..5"
 unfoldable pub reception_at : Node → ℕ → Reception
@@ -45,23 +40,23 @@ start_of unit = fresh_node 1 unit
 
 -- a refusal leaves the state as found
 unfoldable pub unchanged : Node → Refusal → Changed
-unchanged n why = record { node = n; answer = Refused why }
+unchanged n why = record { node = n; answer = Err why }
 
 unfoldable pub done : Node → Changed
-done n = record { node = n; answer = Done }
+done n = record { node = n; answer = Ok tt }
 
 -- 1 "own position not 1..5"
-unfoldable pub made_at : Node → Vehicle → Changed
-made_at n (At p) = done n
-made_at n NoVehicle = unchanged n (refusal 1)
+unfoldable pub made_at : Node → Option Position → Changed
+made_at n (Some p) = done n
+made_at n None = unchanged n (refusal 1)
 
 unfoldable pub fresh_of : ℕ → ℕ → Changed
 fresh_of own unit = made_at (fresh_node own unit) (trailer_at own)
 
 -- "A new position closes all receptions; the same one changes nothing"; 15 leaves all as found
-unfoldable pub taken_to : Node → AddressTaken → Changed
-taken_to n (address.Own p) = pick (place_of p == n.own) (done n) (done (fresh_node (place_of p) n.unit))
-taken_to n (address.Refused why) = unchanged n why
+unfoldable pub taken_to : Node → Result Position Refusal → Changed
+taken_to n (Ok p) = pick (place_of p == n.own) (done n) (done (fresh_node (place_of p) n.unit))
+taken_to n (Err why) = unchanged n why
 
 unfoldable pub taken_by : Node → ℕ → Changed
 taken_by n source = pick (sound_node n) (taken_to n (taken_after source)) (unchanged n (refusal 1))

@@ -2,64 +2,65 @@
 ghost use Rattle.std.specs.Prelude.{◌≡◌};
 ghost use Rattle.receiver.specs.Addressings.{unit_is, destination_of, addressed_by, addressing_of};
 
-use identifiers::{Identifier, IdentifierRead, Refusal};
-use readings::{Position, Vehicle};
+use crate::offered::{Offered, Own};
+use identifiers::{Identifier, Refusal};
+use readings::Position;
 
-// A frame refused by checks 2 to 8, or its vehicle, and whether it is functional.
-#[derive(Clone, Copy)]
-pub enum Addressing {
-    Refused(Refusal),
-    From { from: Position, functional: bool },
+// The vehicle of a frame that checks 2 to 8 let through, and whether it is functional.
+#[derive(Clone, Copy, Debug, PartialEq, Eq)]
+pub struct Addressing {
+    pub from: Position,
+    pub functional: bool,
 }
 
-fn is_unit(unit: u8, data: &[u8]) -> bool
-    ensures { result ≡ unit_is unit «data».now }
-{
-    if data.len() == 0 {
-        return false;
+impl Own {
+    #[tactic(auto, unfolding(crate::specs::Addressings::unit_is, identifiers::specs::Choice::both))]
+    fn has_unit(self, data: &[u8]) -> bool
+        ensures { result ≡ unit_is self.unit «data».now }
+    {
+        data.first() == Some(&self.unit)
     }
-    data[0] == unit
-}
 
-fn destination(own: Position, functional: bool) -> u8
-    ensures { result ≡ destination_of own functional }
-{
-    if functional {
-        return Position::GLOBAL;
+    #[tactic(auto, unfolding(crate::specs::Addressings::destination_of, identifiers::specs::Choice::pick))]
+    fn destination(self, functional: bool) -> u8
+        ensures { result ≡ destination_of self.position functional }
+    {
+        if functional {
+            Position::GLOBAL
+        } else {
+            self.position.address()
+        }
     }
-    own.address()
-}
 
-// Checks 5 to 8.
-fn addressed_by(own: Position, unit: u8, fields: Identifier, data: &[u8]) -> Addressing
-    ensures { result ≡ addressed_by own unit fields «data».now }
-{
-    let functional = fields.format == 205;
-    let diagnostic = (fields.data_page == 0) & (functional | (fields.format == 206));
-    if !diagnostic {
-        return Addressing::Refused(Refusal::NotDiagnostic);
+    // Checks 5 to 8.
+    #[tactic(auto, unfolding(crate::specs::Addressings::addressed_by, crate::specs::Addressings::addressed_from, crate::specs::Addressings::diagnostic, identifiers::specs::Choice::pick, identifiers::specs::Choice::both, identifiers::specs::Choice::either))]
+    fn addressed_by(self, fields: Identifier, data: &[u8]) -> Result<Addressing, Refusal>
+        ensures { result ≡ addressed_by self.position self.unit fields «data».now }
+    {
+        let functional = fields.format == 205;
+        let diagnostic = fields.data_page == 0 && (functional || fields.format == 206);
+        if !diagnostic {
+            return Err(Refusal::NotDiagnostic);
+        }
+        let from = Position::of_address(fields.source).ok_or(Refusal::NoOtherVehicle)?;
+        if from == self.position {
+            return Err(Refusal::NoOtherVehicle);
+        }
+        if fields.specific != self.destination(functional) {
+            return Err(Refusal::OtherDestination);
+        }
+        if !self.has_unit(data) {
+            return Err(Refusal::OtherUnit);
+        }
+        Ok(Addressing { from, functional })
     }
-    let Vehicle::At(from) = Position::of_address(fields.source) else {
-        return Addressing::Refused(Refusal::NoOtherVehicle);
-    };
-    if from.place() == own.place() {
-        return Addressing::Refused(Refusal::NoOtherVehicle);
-    }
-    if fields.specific != destination(own, functional) {
-        return Addressing::Refused(Refusal::OtherDestination);
-    }
-    if !is_unit(unit, data) {
-        return Addressing::Refused(Refusal::OtherUnit);
-    }
-    Addressing::From { from, functional }
-}
 
-// Checks 2 to 8.
-pub fn addressing_of(own: Position, unit: u8, identifier: u32, data: &[u8]) -> Addressing
-    ensures { result ≡ addressing_of own unit identifier «data».now }
-{
-    match Identifier::of_frame(identifier, data) {
-        IdentifierRead::Refused(why) => Addressing::Refused(why),
-        IdentifierRead::Fields(fields) => addressed_by(own, unit, fields, data),
+    // Checks 2 to 8.
+    #[tactic(auto, unfolding(crate::specs::Addressings::addressing_of, crate::specs::Addressings::addressed_read))]
+    pub fn addressing_of(self, frame: Offered) -> Result<Addressing, Refusal>
+        ensures { result ≡ addressing_of self.position self.unit frame.entry.identifier frame.entry.data.now }
+    {
+        let fields = Identifier::of_frame(frame.identifier, frame.data)?;
+        self.addressed_by(fields, frame.data)
     }
 }

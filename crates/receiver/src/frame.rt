@@ -2,14 +2,15 @@
 ghost use Rattle.std.specs.Prelude.{◌≡◌, length};
 ghost use Rattle.receiver.specs.Frames.{single_of, first_of, carried_of, judged_of};
 
-use crate::addressing::{Addressing, addressing_of};
+use crate::addressing::Addressing;
+use crate::offered::{Offered, Own};
 use identifiers::Refusal;
 use readings::Position;
 
-// A frame refused by checks 2 to 10, or from whom it is and what it carries.
-#[derive(Clone, Copy)]
+// From whom a frame is that checks 2 to 10 let through, and what it carries. Over-long is no `Err`: it has a vehicle, to which a control is due
+// (`Outcomes.due_of`).
+#[derive(Clone, Copy, Debug, PartialEq, Eq)]
 pub enum Judged {
-    Refused(Refusal),
     Single {
         from: Position,
         functional: bool,
@@ -29,81 +30,70 @@ pub enum Judged {
 }
 
 // Low half 1 to 6, and at least 2 + L data bytes.
-fn single(from: Position, functional: bool, low: u8, count: usize) -> Judged
-    ensures { result ≡ single_of from functional low count }
+#[tactic(auto, unfolding(crate::specs::Frames::single_of, identifiers::specs::Choice::pick))]
+fn single(addressing: Addressing, low: u8, count: usize) -> Result<Judged, Refusal>
+    ensures { result ≡ single_of addressing.from addressing.functional low count }
 {
+    let Addressing { from, functional } = addressing;
     let length = low as usize;
-    if length == 0 {
-        return Judged::Refused(Refusal::Malformed);
+    if !(1..=6).contains(&length) || count < 2 + length {
+        return Err(Refusal::Malformed);
     }
-    if 6 < length {
-        return Judged::Refused(Refusal::Malformed);
-    }
-    if count < 2 + length {
-        return Judged::Refused(Refusal::Malformed);
-    }
-    Judged::Single {
+    Ok(Judged::Single {
         from,
         functional,
         length: low,
-    }
+    })
 }
 
 // 8 data bytes, and L in 12 bits: 7 to 255, or over-long.
-fn first(from: Position, data: &[u8]) -> Judged
+#[tactic(auto, unfolding(crate::specs::Frames::first_of, crate::specs::Frames::first_length, identifiers::specs::Choice::pick))]
+fn first(from: Position, data: &[u8]) -> Result<Judged, Refusal>
     ensures { result ≡ first_of from «data».now }
 {
     if data.len() < 8 {
-        return Judged::Refused(Refusal::Malformed);
+        return Err(Refusal::Malformed);
     }
-    let high = (data[1] % 16) as usize;
-    let low = data[2] as usize;
-    let length = high * 256 + low;
+    let length = u16::from_be_bytes([data[1] % 16, data[2]]);
     if length < 7 {
-        return Judged::Refused(Refusal::Malformed);
+        return Err(Refusal::Malformed);
     }
     if 255 < length {
-        return Judged::OverLong { from };
+        return Ok(Judged::OverLong { from });
     }
-    Judged::First {
+    Ok(Judged::First {
         from,
         length: length as u8,
-    }
+    })
 }
 
 // Checks 9 and 10: the second byte's high half.
-fn carried(from: Position, functional: bool, data: &[u8]) -> Judged
-    ensures { result ≡ carried_of from functional «data».now }
+#[tactic(auto, unfolding(crate::specs::Frames::carried_of, identifiers::specs::Choice::pick))]
+fn carried(addressing: Addressing, data: &[u8]) -> Result<Judged, Refusal>
+    ensures { result ≡ carried_of addressing.from addressing.functional «data».now }
 {
     if data.len() < 2 {
-        return Judged::Refused(Refusal::Malformed);
+        return Err(Refusal::Malformed);
     }
-    let high = data[1] / 16;
+    let Addressing { from, functional } = addressing;
     let low = data[1] % 16;
-    if high == 0 {
-        return single(from, functional, low, data.len());
+    match data[1] / 16 {
+        0 => single(addressing, low, data.len()),
+        _ if functional => Err(Refusal::Malformed),
+        1 => first(from, data),
+        2 => Ok(Judged::Consecutive { from, number: low }),
+        3 => Err(Refusal::FlowControl),
+        _ => Err(Refusal::Malformed),
     }
-    if functional {
-        return Judged::Refused(Refusal::Malformed);
-    }
-    if high == 1 {
-        return first(from, data);
-    }
-    if high == 2 {
-        return Judged::Consecutive { from, number: low };
-    }
-    if high == 3 {
-        return Judged::Refused(Refusal::FlowControl);
-    }
-    Judged::Refused(Refusal::Malformed)
 }
 
-// Checks 2 to 10.
-pub fn judge(own: Position, unit: u8, identifier: u32, data: &[u8]) -> Judged
-    ensures { result ≡ judged_of own unit identifier «data».now }
-{
-    match addressing_of(own, unit, identifier, data) {
-        Addressing::Refused(why) => Judged::Refused(why),
-        Addressing::From { from, functional } => carried(from, functional, data),
+impl Own {
+    // Checks 2 to 10.
+    #[tactic(auto, unfolding(crate::specs::Frames::judged_of, crate::specs::Frames::judged_from))]
+    pub fn judge(self, frame: Offered) -> Result<Judged, Refusal>
+        ensures { result ≡ judged_of self.position self.unit frame.entry.identifier frame.entry.data.now }
+    {
+        let addressing = self.addressing_of(frame)?;
+        carried(addressing, frame.data)
     }
 }

@@ -6,10 +6,12 @@ mod bytes;
 mod cutter;
 mod frame;
 mod node;
+mod offered;
 mod outcome;
 mod receiving;
 mod reception;
 mod show;
+mod sound;
 mod steps;
 
 pub use cutter::{FrameCut, FrameCutTold, cut, flow_control, frame_count};

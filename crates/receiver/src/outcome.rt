@@ -1,14 +1,15 @@
 // What is answered to a frame: its outcome, and the same in numbers.
 ghost use Rattle.std.specs.Prelude.{◌≡◌};
+ghost use Rattle.receiver.specs.Cuts.{control_byte};
 ghost use Rattle.receiver.specs.Outcomes.{nothing_told, outcome_told};
 
 use crate::reception::region;
 use identifiers::Refusal;
 use readings::Position;
 
-#[derive(Clone, Copy)]
+// Over-long is no `Err`: a control is due to its vehicle (`due_of`), and no other refusal tells one.
+#[derive(Clone, Copy, Debug, PartialEq, Eq)]
 pub enum Outcome {
-    Refused(Refusal),
     OverLong {
         from: Position,
     },
@@ -29,16 +30,27 @@ pub enum Outcome {
     },
 }
 
-#[derive(Clone, Copy)]
+// By its byte behind the unit.
+#[derive(Clone, Copy, Debug, PartialEq, Eq)]
 pub enum Control {
-    Continue,
-    Overflow,
+    Continue = 0x30,
+    Overflow = 0x32,
 }
 
-// The outcome in numbers: the refusal, 0 for none; what is handed out, 0 nothing, 1 a single frame, 2 a train; from whom, functional or not, where the message
-// starts in the frame's data or in the buffer, its length; and the control that is due to that vehicle, 0 none, 1 continue, 2 overflow.
+impl Control {
+    #[tactic(auto, unfolding(crate::specs::Cuts::control_byte))]
+    pub(crate) fn byte(self) -> u8
+        ensures { result ≡ control_byte self }
+    {
+        self as u8
+    }
+}
+
+// The outcome in the numbers of include/castanhiu.h: the refusal, 0 for none; what is handed out, 0 nothing, 1 a single frame, 2 a train; from
+// whom, functional or not, where the message starts in the frame's data or in the buffer, its length; and the control that is due to that
+// vehicle, 0 none, 1 continue, 2 overflow.
 #[repr(C)]
-#[derive(Clone, Copy)]
+#[derive(Clone, Copy, Debug, PartialEq, Eq)]
 pub struct OutcomeTold {
     pub refusal: u8,
     pub handed_out: u8,
@@ -49,6 +61,7 @@ pub struct OutcomeTold {
     pub control: u8,
 }
 
+#[tactic(auto, unfolding(crate::specs::Outcomes::nothing_told))]
 fn nothing_told(refusal: u8, from: u8, control: u8) -> OutcomeTold
     ensures { result ≡ nothing_told refusal from control }
 {
@@ -63,20 +76,27 @@ fn nothing_told(refusal: u8, from: u8, control: u8) -> OutcomeTold
     }
 }
 
-impl Outcome {
-    pub fn told(self) -> OutcomeTold
-        ensures { result ≡ outcome_told self }
-    {
-        match self {
-            Outcome::Refused(why) => nothing_told(why.number(), 0, 0),
-            Outcome::OverLong { from } => nothing_told(11, from.place(), 2),
-            Outcome::Opened { from } => nothing_told(0, from.place(), 1),
-            Outcome::Taken { from } => nothing_told(0, from.place(), 0),
-            Outcome::Single {
-                from,
-                functional,
-                length,
-            } => OutcomeTold {
+impl From<Result<Outcome, Refusal>> for OutcomeTold {
+    ghost from_gives = { λ r t. t ≡ outcome_told r };
+
+    #[tactic(auto, unfolding(crate::specs::Outcomes::outcome_told, crate::specs::Outcomes::nothing_told))]
+    fn from(outcome: Result<Outcome, Refusal>) -> OutcomeTold {
+        match outcome {
+            Err(why) => nothing_told(why.number(), 0, 0),
+            Ok(Outcome::OverLong { from }) => nothing_told(
+                Refusal::OverLong.number(),
+                from.place(),
+                2,
+            ),
+            Ok(Outcome::Opened { from }) => nothing_told(0, from.place(), 1),
+            Ok(Outcome::Taken { from }) => nothing_told(0, from.place(), 0),
+            Ok(
+                Outcome::Single {
+                    from,
+                    functional,
+                    length,
+                },
+            ) => OutcomeTold {
                 refusal: 0,
                 handed_out: 1,
                 from: from.place(),
@@ -85,7 +105,7 @@ impl Outcome {
                 length,
                 control: 0,
             },
-            Outcome::Train { from, length } => OutcomeTold {
+            Ok(Outcome::Train { from, length }) => OutcomeTold {
                 refusal: 0,
                 handed_out: 2,
                 from: from.place(),

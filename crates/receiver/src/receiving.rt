@@ -1,34 +1,54 @@
 // One frame offered to a node: judged by itself, then by its vehicle's reception; the bytes written; the next node.
 ghost use Rattle.std.specs.Prelude.{◌≡◌, ◌<◌};
 ghost use Rattle.receiver.specs.Steps.{judged_place};
-ghost use Rattle.receiver.specs.Lent.{Receives};
+ghost use Rattle.receiver.specs.Lent.{Receives, ReceivesAs};
 
-use crate::frame::{Judged, judge};
-use crate::node::{NODE, count, is_sound, put_reception, reception_of};
+use crate::frame::Judged;
+use crate::node::{NODE, is_sound, put_reception, reception_of};
+use crate::offered::{Offered, Own};
 use crate::outcome::{Outcome, OutcomeTold};
 use crate::reception::{BUFFER, place};
-use crate::steps::step;
+use crate::sound::Sound;
 use identifiers::Refusal;
-use readings::{Position, Vehicle};
+use readings::Position;
 
-// The place of the vehicle whose reception a judged frame is about; 0 where checks 2 to 10 refuse it.
+// The place of the vehicle whose reception a judged frame is about.
 fn judged_place(judged: Judged) -> usize
-    ensures { (result ≡ judged_place judged) × (result < 6) }
+    ensures { (result ≡ judged_place (Ok judged)) × (result < 6) }
 {
     match judged {
-        Judged::Refused(_) => 0,
-        Judged::Single {
-            from,
-            functional: _,
-            length: _,
-        } => place(from),
-        Judged::First { from, length: _ } => place(from),
-        Judged::OverLong { from } => place(from),
-        Judged::Consecutive { from, number: _ } => place(from),
+        Judged::Single { from, .. }
+        | Judged::First { from, .. }
+        | Judged::OverLong { from }
+        | Judged::Consecutive { from, .. } => place(from),
     }
 }
 
-// A frame offered to the node: refusals 1 to 14, or the reception that it moves.
+// As `receive`, the outcome not yet in numbers.
+fn received(node: &mut [u32; NODE], buffer: &mut [u8], frame: Offered) -> Result<Outcome, Refusal>
+    ensures { ReceivesAs node.old buffer.old frame.entry.identifier frame.entry.data.now frame.entry.stamp result node.new buffer.new }
+{
+    // No `ok_or(..)?`: behind it the check doesn't find that the buffer stays.
+    let Some(buffer) = buffer.as_mut_array::<BUFFER>() else {
+        return Err(Refusal::RulesBroken);
+    };
+    if !is_sound(node) {
+        return Err(Refusal::RulesBroken);
+    }
+    let position = Position::trailer(node[0] as u8).ok_or(Refusal::RulesBroken)?;
+    let unit = node[1] as u8;
+    let judged = Own { position, unit }.judge(frame)?;
+    let p = judged_place(judged);
+    let mut sound = Sound {
+        reception: reception_of(node, p),
+    };
+    let outcome = sound.step(buffer, frame, judged);
+    put_reception(node, p, sound.reception);
+    outcome
+}
+
+// A frame offered to the node, in the parts that C hands in: refusals 1 to 14, or the reception that it moves. The outcome in numbers, of which
+// `Receives` and its theorems speak.
 pub fn receive(
     node: &mut [u32; NODE],
     buffer: &mut [u8],
@@ -38,20 +58,10 @@ pub fn receive(
 ) -> OutcomeTold
     ensures { Receives node.old buffer.old identifier «data».now stamp result node.new buffer.new }
 {
-    count(node);
-    if buffer.len() != BUFFER {
-        return Outcome::Refused(Refusal::RulesBroken).told();
-    }
-    if !is_sound(node) {
-        return Outcome::Refused(Refusal::RulesBroken).told();
-    }
-    let Vehicle::At(own) = Position::trailer(node[0] as u8) else {
-        return Outcome::Refused(Refusal::RulesBroken).told();
+    let frame = Offered {
+        identifier,
+        data,
+        stamp,
     };
-    let judged = judge(own, node[1] as u8, identifier, data);
-    let p = judged_place(judged);
-    let moved = step(buffer, data, reception_of(node, p), judged, stamp);
-    let reception = moved.reception;
-    put_reception(node, p, reception);
-    moved.outcome
+    received(node, buffer, frame).into()
 }

@@ -10,7 +10,8 @@ use readings::Position;
 // The bytes of a reception buffer: 256 for each position.
 pub const BUFFER: usize = 1536;
 
-#[derive(Clone, Copy)]
+// Closed where all are 0, and no Option: `castanhiu_node` has three numbers for each, as `Lent.node_in` reads them.
+#[derive(Clone, Copy, Debug, PartialEq, Eq)]
 pub struct Reception {
     pub length: u32,
     pub taken: u32,
@@ -25,15 +26,16 @@ impl Reception {
     };
 
     // Closed in its one form, or open with 7 to 255 bytes of which some are left.
+    #[tactic(auto, unfolding(crate::specs::Receptions::sound_reception, crate::specs::Lent::in_bytes, identifiers::specs::Choice::pick, identifiers::specs::Choice::both))]
     pub fn is_sound(self) -> bool
         ensures { result ≡ both (in_bytes self) (sound_reception self) }
     {
         let length = self.length as usize;
         let taken = self.taken as usize;
         if length == 0 {
-            return (taken == 0) & (self.last == 0);
+            return taken == 0 && self.last == 0;
         }
-        (7 <= length) & (length <= 255) & (5 + 6 * taken < length)
+        (7..=255).contains(&length) && 5 + 6 * taken < length
     }
 }
 
@@ -45,6 +47,7 @@ pub fn place(position: Position) -> usize
 }
 
 // Where its bytes begin in the buffer.
+#[tactic(auto, unfolding(crate::specs::Receptions::region_at))]
 pub fn region(position: Position) -> usize
     ensures { (result ≡ region_at position) × (result ≤ 1280) }
 {

@@ -8,16 +8,12 @@ use crate::outcome::OutcomeTold;
 fn part<'a>(s: &'a [u8], at: usize, count: usize) -> &'a [u8]
     ensures { result.now ≡ take count (drop at s.now) }
 {
-    if s.len() < at {
-        return &s[0..0];
-    }
-    if s.len() - at < count {
-        return &s[at..];
-    }
-    let end = at + count;
-    &s[at..end]
+    let behind = &s[at.min(s.len())..];
+    &behind[..count.min(behind.len())]
 }
 
+// By the outcome in numbers, as `Shown.told_message` has it and C hands it back.
+#[tactic(auto, unfolding(crate::specs::Shown::told_message, identifiers::specs::Choice::pick))]
 pub fn shown<'a>(data: &'a [u8], buffer: &'a [u8], outcome: OutcomeTold) -> &'a [u8]
     ensures { result.now ≡ told_message outcome «data».now buffer.now }
 {

@@ -1,178 +1,147 @@
 // What a frame does to its vehicle's reception and to the buffer.
-ghost use Rattle.std.specs.Prelude.{◌≡◌, ℕ, ◌+◌, ◌≤◌, min, true, length};
+ghost use Rattle.std.specs.Prelude.{◌≡◌, ◌≢◌, ℕ, ◌+◌, ◌≤◌, min, length};
 ghost use Rattle.readings.specs.declared.position.Position.{Position};
 ghost use Rattle.receiver.specs.declared.frame.Judged.TheVariants.{First};
-ghost use Rattle.receiver.specs.Receptions.{closed, sound_reception, buffer_length};
-ghost use Rattle.receiver.specs.Lent.{in_bytes};
-ghost use Rattle.receiver.specs.Steps.{step_told, gap_of, opened, done_of, left_of, taken_step, followed, behind_single, step_of, written_by};
+ghost use Rattle.receiver.specs.Receptions.{closed};
+ghost use Rattle.receiver.specs.Wire.{IsFirst};
+ghost use Rattle.receiver.specs.Steps.{gap_of, left_of, taken_step, followed, step_of, Gives};
 
-use crate::bytes::{store, store_six};
+use crate::bytes::store;
 use crate::frame::Judged;
-use crate::outcome::{Outcome, OutcomeTold};
-use crate::reception::{Reception, region};
+use crate::offered::Offered;
+use crate::outcome::Outcome;
+use crate::reception::{BUFFER, Reception, region};
+use crate::sound::Sound;
 use identifiers::Refusal;
 use readings::Position;
 
 // The longest gap between two frames of a train, in milliseconds.
 const LONGEST_GAP: u32 = 150;
 
-// What a frame does: its vehicle's reception afterwards, and its outcome in numbers.
-#[derive(Clone, Copy)]
-pub struct StepTold {
-    pub reception: Reception,
-    pub outcome: OutcomeTold,
-}
-
 // Milliseconds from the earlier stamp to the later; stamps run round.
+#[tactic(auto, unfolding(crate::specs::Steps::gap_of))]
 fn gap(later: u32, earlier: u32) -> u32
     ensures { result ≡ gap_of later earlier }
 {
-    std::num::wrapping_sub_u32(later, earlier)
+    later.wrapping_sub(earlier)
 }
 
-fn leave(reception: Reception, outcome: OutcomeTold) -> StepTold
-    ensures { (result.reception ≡ reception) × (result.outcome ≡ outcome) }
-{
-    StepTold { reception, outcome }
-}
+impl Sound {
+    #[tactic(auto, unfolding(crate::specs::Receptions::sound_reception, crate::specs::Lent::in_bytes, identifiers::specs::Choice::pick, identifiers::specs::Choice::both))]
+    fn close(&mut self)
+        ensures { self.new.reception ≡ closed }
+    {
+        self.reception = Reception::CLOSED;
+    }
 
-fn close(outcome: OutcomeTold) -> StepTold
-    ensures { (result.reception ≡ closed) × (result.outcome ≡ outcome) }
-{
-    StepTold {
-        reception: Reception::CLOSED,
-        outcome,
-    }
-}
-
-// A single frame closes the reception, if it is not functional.
-fn behind_single(reception: Reception, functional: bool) -> Reception
-    ensures { result ≡ behind_single reception functional }
-{
-    if functional {
-        return reception;
-    }
-    Reception::CLOSED
-}
-
-// A first frame opens the reception anew.
-fn open_anew(buffer: &mut [u8], data: &[u8], from: Position, total: u8, stamp: u32) -> StepTold
-    requires { (length buffer.old ≡ buffer_length) × (8 ≤ length «data».now) }
-    ensures { (result ≡ step_told (opened from total stamp)) × (buffer.new ≡ written_by buffer.old (opened from total stamp) «data».now) }
-{
-    store(buffer, region(from), data, 3, 5);
-    let opened = Reception {
-        length: total as u32,
-        taken: 0,
-        last: stamp,
-    };
-    leave(opened, Outcome::Opened { from }.told())
-}
-
-// A consecutive frame in order and in time is taken, behind what is done; the last one ends the train.
-fn take(
-    buffer: &mut [u8],
-    data: &[u8],
-    reception: Reception,
-    done: usize,
-    from: Position,
-    stamp: u32,
-) -> StepTold
-    requires { (in_bytes reception ≡ true) × (sound_reception reception ≡ true) × (7 ≤ reception.length) × (done ≡ done_of reception) × (length buffer.old ≡ buffer_length)
-        × (2 + min 6 (left_of reception) ≤ length «data».now) }
-    ensures { (result ≡ step_told (taken_step reception from stamp))
-        × (buffer.new ≡ written_by buffer.old (taken_step reception from stamp) «data».now) }
-{
-    let length = reception.length as usize;
-    let at = region(from) + done;
-    if 6 < length - done {
-        store_six(buffer, at, data, 2);
-        let next = Reception {
-            length: reception.length,
-            taken: reception.taken + 1,
-            last: stamp,
-        };
-        return leave(next, Outcome::Taken { from }.told());
-    }
-    store(buffer, at, data, 2, length - done);
-    close(Outcome::Train {
-        from,
-        length: reception.length as u8,
-    }
-    .told())
-}
-
-fn at_most_six(left: usize) -> usize
-    ensures { result ≡ min 6 left }
-{
-    if left < 6 {
-        return left;
-    }
-    6
-}
-
-// A consecutive frame: 12, then 9, 13 and 14.
-fn follow(
-    buffer: &mut [u8],
-    data: &[u8],
-    reception: Reception,
-    from: Position,
-    number: u8,
-    stamp: u32,
-) -> StepTold
-    requires { (in_bytes reception ≡ true) × (sound_reception reception ≡ true) × (length buffer.old ≡ buffer_length) }
-    ensures { (result ≡ step_told (followed reception from number (length «data».now) stamp))
-        × (buffer.new ≡ written_by buffer.old (followed reception from number (length «data».now) stamp) «data».now) }
-{
-    let length = reception.length as usize;
-    let taken = reception.taken as usize;
-    let done = 5 + 6 * taken;
-    if length == 0 {
-        return leave(reception, Outcome::Refused(Refusal::NothingOpen).told());
-    }
-    if data.len() < 2 + at_most_six(length - done) {
-        return leave(reception, Outcome::Refused(Refusal::Malformed).told());
-    }
-    if number as usize != (taken + 1) % 16 {
-        return close(Outcome::Refused(Refusal::WrongNumber).told());
-    }
-    if LONGEST_GAP < gap(stamp, reception.last) {
-        return close(Outcome::Refused(Refusal::Late).told());
-    }
-    take(buffer, data, reception, done, from, stamp)
-}
-
-// What a judged frame does; a first frame has 8 data bytes.
-pub fn step(
-    buffer: &mut [u8],
-    data: &[u8],
-    reception: Reception,
-    judged: Judged,
-    stamp: u32,
-) -> StepTold
-    requires { (in_bytes reception ≡ true) × (sound_reception reception ≡ true) × (length buffer.old ≡ buffer_length) × ((p : Position) (L : ℕ) → judged ≡ First p L → 8 ≤ length «data».now) }
-    ensures { (result ≡ step_told (step_of reception judged (length «data».now) stamp))
-        × (buffer.new ≡ written_by buffer.old (step_of reception judged (length «data».now) stamp) «data».now) }
-{
-    match judged {
-        Judged::Refused(why) => leave(reception, Outcome::Refused(why).told()),
-        Judged::Single {
-            from,
-            functional,
+    // Buffer and frame stand apart here and below: of a struct that lends the buffer each contract would have to say besides that it lends
+    // the same one.
+    // A consecutive frame in order and in time is taken, behind what is done; the last one ends the train.
+    fn take(
+        &mut self,
+        buffer: &mut [u8; BUFFER],
+        frame: Offered,
+        from: Position,
+        left: usize,
+    ) -> Outcome
+        requires { (self.old.reception.length ≢ 0) × (left ≡ left_of self.old.reception) × (2 + min 6 left ≤ length frame.data.now) }
+        ensures { Gives buffer.old frame.entry.data.now (taken_step self.old.reception from frame.entry.stamp) self.new.reception (Ok result) buffer.new }
+    {
+        let Reception {
             length,
-        } => leave(
-            behind_single(reception, functional),
-            Outcome::Single {
+            taken,
+            last: _,
+        } = self.reception;
+        let at = region(from) + (length as usize - left);
+        if 6 < left {
+            store(buffer, at, &frame.data[2..8]);
+            self.reception = Reception {
+                length,
+                taken: taken + 1,
+                last: frame.stamp,
+            };
+            return Outcome::Taken { from };
+        }
+        store(buffer, at, &frame.data[2..2 + left]);
+        self.close();
+        Outcome::Train {
+            from,
+            length: length as u8,
+        }
+    }
+
+    // A consecutive frame: 12, then 9, 13 and 14.
+    fn follow(
+        &mut self,
+        buffer: &mut [u8; BUFFER],
+        frame: Offered,
+        from: Position,
+        number: u8,
+    ) -> Result<Outcome, Refusal>
+        ensures { Gives buffer.old frame.entry.data.now (followed self.old.reception from number (length frame.entry.data.now) frame.entry.stamp) self.new.reception result buffer.new }
+    {
+        let Reception {
+            length,
+            taken,
+            last,
+        } = self.reception;
+        if length == 0 {
+            return Err(Refusal::NothingOpen);
+        }
+        let left = length as usize - (5 + 6 * taken as usize);
+        if frame.data.len() < 2 + usize::min(6, left) {
+            return Err(Refusal::Malformed);
+        }
+        if number as u32 != (taken + 1) % 16 {
+            self.close();
+            return Err(Refusal::WrongNumber);
+        }
+        if LONGEST_GAP < gap(frame.stamp, last) {
+            self.close();
+            return Err(Refusal::Late);
+        }
+        Ok(self.take(buffer, frame, from, left))
+    }
+
+    // What a judged frame does.
+    pub fn step(
+        &mut self,
+        buffer: &mut [u8; BUFFER],
+        frame: Offered,
+        judged: Judged,
+    ) -> Result<Outcome, Refusal>
+        requires { (p : Position) (L : ℕ) → judged ≡ First p L → IsFirst frame.data.now L }
+        ensures { Gives buffer.old frame.entry.data.now (step_of self.old.reception (Ok judged) (length frame.entry.data.now) frame.entry.stamp) self.new.reception result buffer.new }
+    {
+        match judged {
+            Judged::Single {
                 from,
                 functional,
                 length,
+            } => {
+                if !functional {
+                    self.close();
+                }
+                Ok(Outcome::Single {
+                    from,
+                    functional,
+                    length,
+                })
             }
-            .told(),
-        ),
-        Judged::First { from, length } => open_anew(buffer, data, from, length, stamp),
-        Judged::OverLong { from } => close(Outcome::OverLong { from }.told()),
-        Judged::Consecutive { from, number } => {
-            follow(buffer, data, reception, from, number, stamp)
+            Judged::First { from, length } => {
+                store(buffer, region(from), &frame.data[3..8]);
+                self.reception = Reception {
+                    length: length as u32,
+                    taken: 0,
+                    last: frame.stamp,
+                };
+                Ok(Outcome::Opened { from })
+            }
+            Judged::OverLong { from } => {
+                self.close();
+                Ok(Outcome::OverLong { from })
+            }
+            Judged::Consecutive { from, number } => self.follow(buffer, frame, from, number),
         }
     }
 }

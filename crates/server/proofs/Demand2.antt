@@ -8,8 +8,8 @@ use Prim.Native.Nat.{ℕ, ◌+◌, ◌≤◌, ◌<◌}
 use native.Mathlib.Omega.{arith}
 use lib.ListN.{get_or, set, length, take, drop}
 use lib.Seq.{get_or-set_other}
+use Rattle.std.specs.Prelude.{Option, Some, None, Result, Ok, Err}
 use Rattle.identifiers.specs.Bytes.{written}
-use Rattle.identifiers.specs.declared.answer.Answer.TheVariants.{Done}
 use Rattle.identifiers.specs.declared.refusal.Refusal.{Refusal}
 use Rattle.identifiers.proofs.LawsBytes.{take-written, drop-written}
 use Rattle.server.specs.Places.{place_among, held_among}
@@ -22,7 +22,7 @@ use Rattle.server.specs.Server.{negative_of, positive_of, changed_by, wrong_leng
 use Rattle.server.specs.Status.{Setting, setting_of}
 use Rattle.server.specs.declared.trailer.TrailerRecord.{TrailerRecord}
 use Rattle.server.specs.declared.requests.Request.{Request}
-use Rattle.server.specs.declared.serving.Reply.TheVariants.{Refused, Silent, Sent}
+use Rattle.server.specs.declared.requests.Unread.{Unread}
 use Rattle.server.proofs.LawsPlaces.{held_at}
 use Rattle.server.proofs.LawsTrailer.{sound-has}
 use Rattle.server.proofs.LawsCleared.{clear-way, set-way, within-way, sound-with, cleared-within}
@@ -40,7 +40,7 @@ module _ (t : TrailerRecord) (request : List ℕ) (functional : Bool) (response 
   pub record ClearSent : Type 0 where
     pub service : service_of request ≡ 0x14
     pub after : leaves.after ≡ with_statuses t (cleared_of t (group_of request))
-    pub reply : leaves.reply ≡ Sent 1
+    pub reply : leaves.reply ≡ Ok (Some 1)
     pub sent : leaves.response ≡ written response 0 (0x54 ∷ [])
 
   -- "No fault status changes by a request unless a positive clear response answers it":
@@ -67,11 +67,11 @@ module _ (t : TrailerRecord) (request : List ℕ) (functional : Bool) (response 
     pub rest : drop n leaves.response ≡ drop n response
 
   abbrev pub SentReply : Type 0
-  SentReply = (n : ℕ) → leaves.reply ≡ Sent n → SentBytes n
+  SentReply = (n : ℕ) → leaves.reply ≡ Ok (Some n) → SentBytes n
 
   -- Silent exactly where a record that keeps its rules is asked with the right lengths and the code is silenced by bit 7 or by the functional address.
   abbrev pub SilentExactly : Type 0
-  SilentExactly = leaves.reply ≡ Silent
+  SilentExactly = leaves.reply ≡ Ok None
       ↔ ((sound_record t ≡ true) × ((wrong_lengths (length request) (length response) ≡ false) × (silent_on (request_of request) functional (negative_of t (request_of request) request) ≡ true)))
 
 -- of one setting
@@ -81,7 +81,7 @@ module _ (t : TrailerRecord) (code status : ℕ) where
 
   -- "The host can set the status of one code": that one, and nothing else,
   pub record OneSet : Type 0 where
-    pub answer : sets.answer ≡ Done
+    pub answer : sets.answer ≡ Ok tt
     pub place : place_among t.codes t.count code < t.count
     pub code-there : get_or t.codes (place_among t.codes t.count code) 0 ≡ code
     pub within : status_within t.availability status ≡ true
@@ -114,7 +114,7 @@ module _ (t : TrailerRecord) (request : List ℕ) (functional : Bool) (response 
   response-is e = ap (λ (p : Effect). p.response) e
 
   -- a request that is answered positively
-  changed : {asked : Request} → Reads request asked → left ≡ effect (changed_by t asked) (Sent (length (positive_of t asked request))) (written response 0 (positive_of t asked request)) → StaysOrCleared t request functional response
+  changed : {asked : Result Request Unread} → Reads request asked → left ≡ effect (changed_by t asked) (Ok (Some (length (positive_of t asked request)))) (written response 0 (positive_of t asked request)) → StaysOrCleared t request functional response
   unfolding changed_by positive_of service_of group_of
   changed (unknown_service x) e = inl (after_is e)
   changed (too_short x) e = inl (after_is e)
@@ -148,7 +148,7 @@ module _ (t : TrailerRecord) (request : List ℕ) (functional : Bool) (response 
       (λ (s : ClearSent t request functional response). ap sound_record s.after ∙ sound-with t _ h (within-way t _ (clear-way t (group_of request)) (cleared-within t.availability) (sound-has t h).statuses)) stays-or-cleared
 
   -- "service + 40"
-  first_byte : {asked : Request} → Reads request asked → negative_of t asked request ≡ 0 → get_or (positive_of t asked request) 0 0 ≡ service_of request + 0x40
+  first_byte : {asked : Result Request Unread} → Reads request asked → negative_of t asked request ≡ 0 → get_or (positive_of t asked request) 0 0 ≡ service_of request + 0x40
   unfolding negative_of positive_of service_of
   first_byte (unknown_service x) e = absurd (omega arith)
   first_byte (too_short x) e = absurd (omega arith)
@@ -171,13 +171,13 @@ module _ (t : TrailerRecord) (request : List ℕ) (functional : Bool) (response 
   pub sent-reply : SentReply t request functional response
   sent-reply n h = by (ends t request functional response)
     where
-      no-refusal : (r : Refusal) → Refused r ≡ Sent n → ⊥
-      no-refusal r e = let z : ◌≡◌ {A = ℕ} 0 1 = cc in omega arith
+      no-refusal : (r : Refusal) → ◌≡◌ {A = Result (Option ℕ) Refusal} (Err r) (Ok (Some n)) → ⊥
+      no-refusal r e = cc
 
-      no-silence : Silent ≡ Sent n → ⊥
-      no-silence e = let z : ◌≡◌ {A = ℕ} 0 1 = cc in omega arith
+      no-silence : ◌≡◌ {A = Result (Option ℕ) Refusal} (Ok None) (Ok (Some n)) → ⊥
+      no-silence e = cc
 
-      same : (m : ℕ) → Sent m ≡ Sent n → n ≡ m
+      same : (m : ℕ) → ◌≡◌ {A = Result (Option ℕ) Refusal} (Ok (Some m)) (Ok (Some n)) → n ≡ m
       same m e = cc
 
       by : Ends t request functional response → SentBytes t request functional response n
@@ -202,13 +202,13 @@ module _ (t : TrailerRecord) (request : List ℕ) (functional : Bool) (response 
   pub silent-exactly : SilentExactly t request functional response
   silent-exactly = (λ h. by (ends t request functional response) h, λ k. reply-is (served-silent t request functional response k.0 k.1.0 refl k.1.1))
     where
-      no-refusal : (r : Refusal) → Refused r ≡ Silent → ⊥
-      no-refusal r e = let z : ◌≡◌ {A = ℕ} 0 1 = cc in omega arith
+      no-refusal : (r : Refusal) → ◌≡◌ {A = Result (Option ℕ) Refusal} (Err r) (Ok None) → ⊥
+      no-refusal r e = cc
 
-      not-sent : (m : ℕ) → Sent m ≡ Silent → ⊥
-      not-sent m e = let z : ◌≡◌ {A = ℕ} 0 1 = cc in omega arith
+      not-sent : (m : ℕ) → ◌≡◌ {A = Result (Option ℕ) Refusal} (Ok (Some m)) (Ok None) → ⊥
+      not-sent m e = cc
 
-      by : Ends t request functional response → left.reply ≡ Silent → (sound_record t ≡ true) × ((wrong_lengths (length request) (length response) ≡ false) × (silent_on (request_of request) functional code ≡ true))
+      by : Ends t request functional response → left.reply ≡ Ok None → (sound_record t ≡ true) × ((wrong_lengths (length request) (length response) ≡ false) × (silent_on (request_of request) functional code ≡ true))
       by (broken a) h = absurd (no-refusal _ (sym (reply-is (served-1 t request functional response a)) ∙ h))
       by (wrong a b) h = absurd (no-refusal _ (sym (reply-is (served-17 t request functional response a b)) ∙ h))
       by (silent a b c) h = (a, (b, c))

@@ -7,6 +7,7 @@ use mathlib.Core.Logic.{◌≢◌, ◌↔◌, ◌⊎◌, inl, inr, ⊎_elim}
 use Prim.Native.Nat.{ℕ, ◌≤◌}
 use native.Mathlib.Omega.{arith}
 use lib.ListN.{get_or, length, take}
+use Rattle.std.specs.Prelude.{Some, Ok, Result}
 use Rattle.identifiers.specs.Choice.{both, either}
 use Rattle.identifiers.specs.Bytes.{written}
 use Rattle.identifiers.proofs.LawsBytes.{take-written}
@@ -18,7 +19,7 @@ use Rattle.server.specs.Server.{negative_of, positive_of, Effect, effect, served
 use Rattle.server.specs.Negatives.{NotHeld, TooLong, negative_sent, nothing_sent}
 use Rattle.server.specs.declared.trailer.TrailerRecord.{TrailerRecord}
 use Rattle.server.specs.declared.requests.Request.{Request}
-use Rattle.server.specs.declared.serving.Reply.TheVariants.{Sent}
+use Rattle.server.specs.declared.requests.Unread.{Unread}
 use Rattle.server.proofs.LawsRequests.{reads}
 use Rattle.server.proofs.LawsServer.{lengths-right, negative-bytes, served-silent, served-negative}
 use Rattle.server.proofs.LawsSilence.{silent-negative}
@@ -79,7 +80,7 @@ module _ (t : TrailerRecord) (q : List ℕ) where
   negative-others = one_of (why t q refl)
 
 -- ---- and the whole effect: of a request of 1 to 255 bytes, by a record that keeps its rules, into a buffer of 255 bytes
-not-7F : (t : TrailerRecord) (q : List ℕ) {asked : Request} → Reads q asked → negative_of t asked q ≡ 0 → get_or (positive_of t asked q) 0 0 ≢ 0x7F
+not-7F : (t : TrailerRecord) (q : List ℕ) {asked : Result Request Unread} → Reads q asked → negative_of t asked q ≡ 0 → get_or (positive_of t asked q) 0 0 ≢ 0x7F
 unfolding negative_of positive_of
 not-7F t q (unknown_service x) e z = omega arith
 not-7F t q (too_short x) e z = omega arith
@@ -99,7 +100,7 @@ module _ (t : TrailerRecord) (sound : sound_record t ≡ true) (q : List ℕ) (s
   sent functional code n h e =
       let m : negative_of t (request_of q) q ≢ 0 = (λ z. n (sym e ∙ z)) in
       served-negative t q functional response sound (lengths-right _ _ some most room) refl (silent-negative (request_of q) functional m ∙ ap (λ (c : ℕ). both functional (quiet_code c)) e ∙ h) m
-      ∙ ap (λ (l : List ℕ). effect t (Sent 3) (written response 0 l)) (negative-bytes _ _ ∙ ap (λ (c : ℕ). 0x7F ∷ get_or q 0 0 ∷ c ∷ []) e)
+      ∙ ap (λ (l : List ℕ). effect t (Ok (Some 3)) (written response 0 l)) (negative-bytes _ _ ∙ ap (λ (c : ℕ). 0x7F ∷ get_or q 0 0 ∷ c ∷ []) e)
 
   meant : (functional : Bool) (code : ℕ) → served_of t q functional response ≡ negative_sent t q response code → negative_of t (request_of q) q ≡ code
   unfolding service_of

@@ -5,6 +5,7 @@ use mathlib.Core.List.{List, [], ◌∷◌, ◌++◌}
 use Prim.Native.Nat.{ℕ, ◌+◌, ◌*◌, ◌/◌, ◌%◌, ◌≤◌, ◌<◌}
 use native.Mathlib.Omega.{arith}
 use lib.ListN.{get_or, length}
+use Rattle.std.specs.Prelude.{Some, None, Result, Ok}
 use Rattle.identifiers.specs.Choice.{either}
 use Rattle.identifiers.specs.Bytes.{written}
 use Rattle.identifiers.proofs.LawsBelow.{count-all, list-none, list-suc}
@@ -17,7 +18,7 @@ use Rattle.server.specs.Forms.{Reads}
 use Rattle.server.specs.Server.{negative_of, positive_of, changed_by, effect, served_of}
 use Rattle.server.specs.declared.trailer.TrailerRecord.{TrailerRecord}
 use Rattle.server.specs.declared.requests.Request.{Request}
-use Rattle.server.specs.declared.serving.Reply.TheVariants.{Silent, Sent}
+use Rattle.server.specs.declared.requests.Unread.{Unread}
 use Rattle.server.proofs.LawsPlaces.{held_at}
 use Rattle.server.proofs.LawsFaults.{count-listed-le}
 use Rattle.server.proofs.LawsDataIdentifiers.{answer-hit}
@@ -51,11 +52,11 @@ module _ (t : TrailerRecord) where
       ∙ ap (λ (x : ℕ). a ∷ x ∷ data_of t k) low
 
 -- ---- a request that has no negative code: its answer is sent where bit 7 is clear, and silenced where it is set
-module _ (t : TrailerRecord) (sound : sound_record t ≡ true) (functional : Bool) (response : List ℕ) (room : length response ≡ 255) {asked : Request} (q : List ℕ) (read : Reads q asked) (some : 1 ≤ length q) (most : length q ≤ 255) (none : negative_of t asked q ≡ 0) where
-  pub answered-sent : {n : ℕ} → silenced asked ≡ false → length (positive_of t asked q) ≡ n → served_of t q functional response ≡ effect (changed_by t asked) (Sent n) (written response 0 (positive_of t asked q))
+module _ (t : TrailerRecord) (sound : sound_record t ≡ true) (functional : Bool) (response : List ℕ) (room : length response ≡ 255) {asked : Result Request Unread} (q : List ℕ) (read : Reads q asked) (some : 1 ≤ length q) (most : length q ≤ 255) (none : negative_of t asked q ≡ 0) where
+  pub answered-sent : {n : ℕ} → silenced asked ≡ false → length (positive_of t asked q) ≡ n → served_of t q functional response ≡ effect (changed_by t asked) (Ok (Some n)) (written response 0 (positive_of t asked q))
   answered-sent loud e =
       served-positive t q functional response sound (lengths-right _ _ some most room) ((reads-exactly q asked).1 read) (silent-positive asked functional none ∙ loud) none
-      ∙ ap (λ (m : ℕ). effect (changed_by t asked) (Sent m) (written response 0 (positive_of t asked q))) e
+      ∙ ap (λ (m : ℕ). effect (changed_by t asked) (Ok (Some m)) (written response 0 (positive_of t asked q))) e
 
-  pub answered-silent : silenced asked ≡ true → served_of t q functional response ≡ effect t Silent response
+  pub answered-silent : silenced asked ≡ true → served_of t q functional response ≡ effect t (Ok None) response
   answered-silent quiet = served-silent t q functional response sound (lengths-right _ _ some most room) ((reads-exactly q asked).1 read) (silent-positive asked functional none ∙ quiet)

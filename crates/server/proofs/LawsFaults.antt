@@ -1,21 +1,21 @@
 -- Laws of the fault codes: what is listed and how long it is, and the loop that stores.
-use mathlib.Core.Path.{◌≡◌, refl, sym, ap, ◌∙◌}
+use mathlib.Core.Path.{◌≡◌, refl, ap, ◌∙◌}
 use mathlib.Core.Bool.{Bool, true, false, not}
 use mathlib.Core.List.{List, []}
-use mathlib.Core.Logic.{◌≢◌, ◌↔◌, ⊎_elim}
-use Prim.Native.Nat.{ℕ, zero, suc, ◌+◌, ◌*◌, ◌<◌, ◌≤◌}
-use native.Mathlib.Nat.{eq-or-lt_of_le}
+use mathlib.Core.Logic.{◌≢◌, ◌↔◌}
+use Prim.Native.Nat.{ℕ, zero, suc, ◌+◌, ◌*◌, ◌≤◌}
 use native.Mathlib.Numerals.{add-one}
 use native.Mathlib.Omega.{arith}
 use borrow.Author.Tests.{eqb-false, ne_eqb, not-true}
 use lib.Bits.{bit_and}
-use lib.ListN.{get_or, set, length, length-append}
-use Rattle.identifiers.specs.Choice.{pick}
+use lib.ListN.{get_or, set, length, length-append, take}
+use Rattle.identifiers.specs.Choice.{pick, either}
 use Rattle.identifiers.specs.Below.{count_below, list_below}
 use Rattle.identifiers.proofs.LawsChoice.{taken, pick-false}
 use Rattle.identifiers.proofs.LawsBelow.{count_none, count-suc, count-le, list-none, list-suc}
 use Rattle.server.specs.Faults.{matches, listed, count_listed, code_and_status, reported, report_of, stored_below}
 use Rattle.server.specs.declared.trailer.TrailerRecord.{TrailerRecord}
+use Rattle.server.proofs.LawsHeld.{held-count, whole}
 
 -- "Match: status AND mask is not 0."
 pub matches-exactly : (status mask : ℕ) → matches status mask ≡ true ↔ (bit_and status mask ≢ 0)
@@ -48,6 +48,23 @@ pub length-report : (t : TrailerRecord) (all : Bool) (mask : ℕ) → length (re
 unfolding report_of count_listed
 length-report t all mask = length-below t.codes t.statuses all mask t.count
 
+-- what is counted in the part that is held
+pub counted : (t : TrailerRecord) (all : Bool) (mask : ℕ) {part : List ℕ} {n : ℕ} → (part ≡ take t.count t.statuses) × (length part ≡ t.count) → n ≡ count_below (λ i. listed all mask (get_or part i 0)) (length part) → n ≡ count_listed t all mask
+unfolding count_listed
+counted t all mask {part} {n} p e =
+    let long : length (take t.count t.statuses) ≡ t.count = rw p.0 at p.1 in
+    rw (p.1, p.0) at e ∙ held-count t.statuses (listed all mask) t.count (whole t.statuses t.count long)
+
+-- a report of all lists every code that is held
+all-below : (statuses : List ℕ) (mask n : ℕ) → count_below (λ i. listed true mask (get_or statuses i 0)) n ≡ n
+unfolding listed either pick
+all-below statuses mask zero = count_none _
+all-below statuses mask (suc n) = rw (count-suc, all-below statuses mask n) (omega arith)
+
+pub every-listed : (t : TrailerRecord) (mask : ℕ) → count_listed t true mask ≡ t.count
+unfolding count_listed
+every-listed t mask = all-below t.statuses mask t.count
+
 pub count-listed-le : (t : TrailerRecord) (all : Bool) (mask : ℕ) → count_listed t all mask ≤ t.count
 unfolding count_listed
 count-listed-le t all mask = count-le _ t.count
@@ -62,15 +79,6 @@ module _ (p : ℕ → Bool) (status : ℕ) (statuses : List ℕ) where
   unfolding stored_below pick
   stored-hit n e = rw (add-one n, e)
 
-  -- nothing is stored where no place has p, and one status where one place has it
-  pub stored-nowhere : (n : ℕ) → ((i : ℕ) → i < n → p i ≡ false) → statuses ≡ stored_below p status statuses n
+  pub stored-miss : (n : ℕ) → p n ≡ false → stored_below p status statuses n ≡ stored_below p status statuses (n + 1)
   unfolding stored_below pick
-  stored-nowhere zero h = refl
-  stored-nowhere (suc n) h = rw (h n (omega arith)) (stored-nowhere n (λ i l. h i (omega arith)))
-
-  pub stored-once : (n place : ℕ) → place < n → p place ≡ true → ((i : ℕ) → i < place → p i ≡ false) → ((i : ℕ) → place < i → i < n → p i ≡ false) → set statuses place status ≡ stored_below p status statuses n
-  unfolding stored_below pick
-  stored-once zero place l e before behind = absurd (omega arith)
-  stored-once (suc n) place l e before behind =
-      ⊎_elim (λ (q : place ≡ n). rw (ap p (sym q) ∙ e, q) (ap (λ (xs : List ℕ). set xs n status) (stored-nowhere n (λ i m. before i (omega arith)))))
-      (λ (q : place < n). rw (behind n q (omega arith)) (stored-once n place q e before (λ i m o. behind i m (omega arith)))) (eq-or-lt_of_le (omega arith))
+  stored-miss n e = rw (add-one n, e)

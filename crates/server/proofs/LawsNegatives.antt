@@ -8,6 +8,7 @@ use native.Mathlib.Omega.{arith}
 use borrow.Author.Tests.{eqb-false, ne_eqb, ltb-true, lt-ltb}
 use lib.Dec.{eqb, ltb}
 use lib.ListN.{get_or, length}
+use Rattle.std.specs.Prelude.{Result}
 use Rattle.identifiers.specs.Choice.{either}
 use Rattle.identifiers.proofs.LawsChoice.{pick_true, pick-false, either-false}
 use Rattle.server.specs.Trailer.{sound_record}
@@ -19,6 +20,7 @@ use Rattle.server.specs.Server.{content_of_14, content_of_19, content_of_22, neg
 use Rattle.server.specs.Negatives.{NotHeld, no_code, no_identifier, TooLong, over_255}
 use Rattle.server.specs.declared.trailer.TrailerRecord.{TrailerRecord}
 use Rattle.server.specs.declared.requests.Request.{Request}
+use Rattle.server.specs.declared.requests.Unread.{Unread}
 use Rattle.server.proofs.LawsPlaces.{not-held, held-nowhere}
 use Rattle.server.proofs.LawsTrailer.{sound-has}
 use Rattle.server.proofs.LawsRequests.{reads, reads-exactly}
@@ -27,8 +29,8 @@ use Rattle.server.proofs.Demand2Services.{none-held-31, only-none-held-31}
 
 -- ---- where a code is due it is given
 module _ (t : TrailerRecord) (q : List ℕ) where
-  pub by-reading : {asked : Request} → Reads q asked → negative_of t (request_of q) q ≡ negative_of t asked q
-  by-reading d = ap (λ (r : Request). negative_of t r q) ((reads-exactly q _).1 d)
+  pub by-reading : {asked : Result Request Unread} → Reads q asked → negative_of t (request_of q) q ≡ negative_of t asked q
+  by-reading d = ap (λ (r : Result Request Unread). negative_of t r q) ((reads-exactly q _).1 d)
 
   pub due-11 : UnknownService q → negative_of t (request_of q) q ≡ 0x11
   unfolding negative_of
@@ -102,7 +104,7 @@ module _ (t : TrailerRecord) (q : List ℕ) where
       by false true z h = at (pick-false _ _ z ∙ pick_true _ _ h) (content-14 (over_255 s l o (ltb-true _ _ h)))
       by false false z h = at (pick-false _ _ z ∙ pick-false _ _ h) none
 
-  of-reading : {asked : Request} → Reads q asked → Why t q (negative_of t asked q)
+  of-reading : {asked : Result Request Unread} → Reads q asked → Why t q (negative_of t asked q)
   unfolding negative_of
   of-reading (unknown_service x) = form-11 x
   of-reading (too_short x) = form-13-first x

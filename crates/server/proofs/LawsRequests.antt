@@ -8,11 +8,13 @@ use native.Mathlib.Omega.{arith}
 use borrow.Author.Tests.{eq-eqb, ne_eqb, lt-ltb, le-ltb, le-leb, lt-leb, eqb-true, eqb-false, ltb-true, ltb-false}
 use lib.Dec.{eqb, ltb, leb}
 use lib.ListN.{get_or, length}
+use Rattle.std.specs.Prelude.{Result, Ok, Err}
 use Rattle.identifiers.specs.Choice.{pick, both}
 use Rattle.server.specs.Requests.{service_of, sub_function_of, silencing, mask_of, group_of, sized, form_of_14, form_of_19, form_of_22, form_of_3e, request_by, request_of}
 use Rattle.server.specs.Forms.{no_service, short_19, short_3e, unknown_19, unknown_3e, WrongLength, not_4, not_3_of_01, not_3_of_02, not_2_of_0a, under_3, even}
 use Rattle.server.specs.Forms.{not_2_of_00, Reads, unknown_service, too_short, unknown_sub_function, wrong_length, clear_group, count_by_mask, list_by_mask, list_all, read_data, tester_present}
 use Rattle.server.specs.declared.requests.Request.{Request}
+use Rattle.server.specs.declared.requests.Unread.{Unread}
 
 module _ (q : List ℕ) where
   -- the request, by its first byte
@@ -20,7 +22,7 @@ module _ (q : List ℕ) where
   unfolding request_of service_of
   read_at s = ap (λ (n : ℕ). request_by n q) s
 
-  wrong-read : WrongLength q → request_of q ≡ Request.WrongLength
+  wrong-read : WrongLength q → request_of q ≡ Err Unread.WrongLength
   unfolding request_by form_of_14 form_of_19 form_of_22 form_of_3e sub_function_of sized pick both
   wrong-read (not_4 s n) = read_at s ∙ rw (ne_eqb (length q) 4 n)
   wrong-read (not_3_of_01 s l u n) = let v : get_or q 1 0 % 128 ≡ 0x01 = u in read_at s ∙ rw (le-ltb (length q) 2 l, v, ne_eqb (length q) 3 n)
@@ -29,12 +31,12 @@ module _ (q : List ℕ) where
   wrong-read (under_3 s l) = read_at s ∙ rw (lt-leb 3 (length q) l)
   wrong-read (even s e) = read_at s ∙ rw e (off (leb 3 (length q)))
     where
-      off : (b : Bool) → pick (both b false) Request.ReadData Request.WrongLength ≡ Request.WrongLength
+      off : (b : Bool) → pick (both b false) (Ok Request.ReadData) (Err Unread.WrongLength) ≡ Err Unread.WrongLength
       off true = refl
       off false = refl
   wrong-read (not_2_of_00 s l u n) = let v : get_or q 1 0 % 128 ≡ 0x00 = u in read_at s ∙ rw (le-ltb (length q) 2 l, v, ne_eqb (length q) 2 n)
 
-  read_as : {r : Request} → Reads q r → request_of q ≡ r
+  read_as : {r : Result Request Unread} → Reads q r → request_of q ≡ r
   unfolding request_by form_of_14 form_of_19 form_of_22 form_of_3e sub_function_of silencing mask_of group_of sized pick both
   read_as (clear_group s n) = read_at s ∙ rw (eq-eqb (length q) 4 n)
   read_as (count_by_mask s u n) = let v : get_or q 1 0 % 128 ≡ 0x01 = u in read_at s ∙ rw (n, v)
@@ -49,7 +51,7 @@ module _ (q : List ℕ) where
   read_as (unknown_sub_function (unknown_3e s l a)) = read_at s ∙ rw (le-ltb (length q) 2 l, ne_eqb (get_or q 1 0 % 128) 0x00 a)
   read_as (wrong_length w) = wrong-read w
 
-  so : {r : Request} → Reads q r → Reads q (request_of q)
+  so : {r : Result Request Unread} → Reads q r → Reads q (request_of q)
   so d = subst (Reads q) (sym (read_as d)) d
 
   -- by a number that is n or is not, and that is below n or is not
@@ -67,7 +69,7 @@ module _ (q : List ℕ) where
       by true e = here (ltb-true _ _ e)
       by false e = else (ltb-false _ _ e)
 
-  sized-as : (n : ℕ) {r : Request} → (length q ≡ n → Reads q r) → (length q ≢ n → WrongLength q) → Reads q (request_of q)
+  sized-as : (n : ℕ) {r : Result Request Unread} → (length q ≡ n → Reads q r) → (length q ≢ n → WrongLength q) → Reads q (request_of q)
   sized-as n right wrong = equal (length q) n (λ e. so (right e)) (λ e. so (wrong_length (wrong e)))
 
   of-14 : get_or q 0 0 ≡ 0x14 → Reads q (request_of q)
@@ -99,5 +101,5 @@ module _ (q : List ℕ) where
       (λ d. so (unknown_service (no_service a b c d))))))
 
   -- each request has one form, and each form one request
-  pub reads-exactly : (r : Request) → request_of q ≡ r ↔ Reads q r
+  pub reads-exactly : (r : Result Request Unread) → request_of q ≡ r ↔ Reads q r
   reads-exactly r = (λ e. subst (Reads q) e reads, λ d. read_as d)

@@ -11,12 +11,15 @@ use borrow.Author.Tests.{leb-true, ltb-true, eqb-true, eqb-false, eq-eqb, ne_eqb
 use lib.Dec.{eqb, ltb}
 use lib.Bits.{bit_and, bit_or, or_comm}
 use lib.ListN.{get_or}
-use Rattle.identifiers.specs.Choice.{both}
+use Rattle.std.specs.Prelude.{Result, Ok, Err}
+use Rattle.identifiers.specs.Choice.{pick, both}
 use Rattle.identifiers.specs.Below.{all_below}
+use Rattle.identifiers.specs.Refusals.{refusal}
+use Rattle.identifiers.specs.declared.refusal.Refusal.{Refusal}
 use Rattle.identifiers.proofs.LawsChoice.{stop, so, both_true, both_false, both-assoc, and_is}
 use Rattle.identifiers.proofs.LawsBelow.{all-suc, all-at, all-each, all-fails}
 use Rattle.server.specs.Mask.{sound_mask}
-use Rattle.server.specs.Trailer.{ascending, codes_below, status_within, statuses_within, length_within, lengths_within, sound_record}
+use Rattle.server.specs.Trailer.{ascending, codes_below, status_within, statuses_within, length_within, lengths_within, sound_record, checked_as}
 use Rattle.server.specs.declared.trailer.TrailerRecord.{TrailerRecord}
 use Rattle.server.proofs.LawsMask.{and-of-or, part-within}
 
@@ -46,6 +49,23 @@ pub sound-from : (t : TrailerRecord) → Sound t → sound_record t ≡ true
 unfolding sound_record both
 sound-from t s = rw (le-leb t.count 63 s.count, le-leb t.held 16 s.held, s.mask, s.codes, s.ascend, s.statuses, s.identifiers, s.lengths)
 
+-- what `check` answers, and what that says of the record
+pub checked-sound : (t : TrailerRecord) {r : Result (Unit {0}) Refusal} {u : Unit {0}} → r ≡ checked_as t → r ≡ Ok u → sound_record t ≡ true
+unfolding checked_as pick
+checked-sound t {r} {u} p q = by (sound_record t) refl (sym p ∙ q)
+  where
+    by : (b : Bool) → sound_record t ≡ b → pick b (Ok tt) (Err (refusal 1)) ≡ Ok u → b ≡ true
+    by true s e = refl
+    by false s e = cc
+
+pub checked-1 : (t : TrailerRecord) {r : Result (Unit {0}) Refusal} {why : Refusal} → r ≡ checked_as t → r ≡ Err why → (sound_record t ≡ false) × (why ≡ refusal 1)
+unfolding checked_as pick
+checked-1 t {r} {why} p q = by (sound_record t) refl (sym p ∙ q)
+  where
+    by : (b : Bool) → sound_record t ≡ b → pick {A = Result (Unit {0}) Refusal} b (Ok tt) (Err (refusal 1)) ≡ Err why → (b ≡ false) × (why ≡ refusal 1)
+    by true s e = absurd cc
+    by false s e = (refl, cc)
+
 pub length-within : (t : TrailerRecord) (k : ℕ) → lengths_within t ≡ true → k < t.held → (1 ≤ get_or t.lengths k 0) × (get_or t.lengths k 0 ≤ 32)
 unfolding lengths_within length_within
 length-within t k e l = let b = both_true _ _ (all-at _ k t.held e l) in (leb-true _ _ b.0, leb-true _ _ b.1)
@@ -66,12 +86,6 @@ codes-by-last codes count l = by (ascending codes count) (ltb (get_or codes (cou
     by false b p q = sym (both_false _)
     by true false p q = stop true (all-fails _ (count - 1) count (omega arith) q)
     by true true p q = so (all-each _ count (λ i h. lt-ltb (get_or codes i 0) 0xFFFFFF (omega (arith, last-greatest codes (count - 1) p i (omega arith), ltb-true (get_or codes (count - 1) 0) 0xFFFFFF q)))) refl
-
--- none of those that ascend stands at two places
-pub ascend-apart : (codes : List ℕ) (n i j : ℕ) → ascending codes n ≡ true → i < j → j < n → get_or codes i 0 < get_or codes j 0
-unfolding ascending
-ascend-apart codes n i j e l m =
-    omega (arith, ltb-true (get_or codes i 0) (get_or codes (i + 1) 0) (all-at _ i (n - 1) e (omega arith)), last-greatest codes j (all-each _ j (λ k h. all-at _ k (n - 1) e (omega arith))) (i + 1) (omega arith))
 
 -- ---- the statuses: of none no bit is outside the mask, and of two together none where none is of each
 pub none_within : (availability : ℕ) → status_within availability 0 ≡ true

@@ -1,7 +1,9 @@
 -- The crate's laws, which belong to no one function.
 pub mod LawsPlaces
+pub mod LawsAscending
 pub mod LawsMask
 pub mod LawsTrailer
+pub mod LawsHeld
 pub mod LawsRules
 pub mod LawsFaults
 pub mod LawsSeverity

@@ -1,11 +1,10 @@
 -- Services 14 and 19: the match, the count, the cleared statuses and the report (document 01, "Server").
-use Rattle.std.specs.Prelude.{Bool, true, not, List, [], ◌∷◌, ℕ, zero, suc, ◌/◌, ◌%◌, eqb, get_or, set}
+use Rattle.std.specs.Prelude.{Bool, not, List, [], ◌∷◌, ℕ, zero, suc, ◌/◌, ◌%◌, eqb, get_or, set}
 use Rattle.std.specs.Int.Bits.{bit_and}
 use Rattle.identifiers.specs.Choice.{pick, either}
 use Rattle.identifiers.specs.Below.{count_below, list_below}
 use Rattle.server.specs.Places.{held_among}
 use Rattle.server.specs.declared.trailer.TrailerRecord.{TrailerRecord}
-use Rattle.server.specs.declared.faults.Cleared.{Cleared}
 
 -- "Match: status AND mask is not 0."
 unfoldable pub matches : ℕ → ℕ → Bool
@@ -50,13 +49,3 @@ stored_below p status statuses (suc n) = pick (p n) (set (stored_below p status 
 -- "those statuses become `50` AND the availability mask"
 unfoldable pub cleared_of : TrailerRecord → ℕ → List ℕ
 cleared_of t group = stored_below (λ i. in_group group (get_or t.codes i 0)) (bit_and 0x50 t.availability) t.statuses t.count
-
--- the statuses after a clear of those that were found: that at one place, or the first so many
-unfoldable pub cleared_at : Cleared → ℕ → List ℕ → List ℕ
-cleared_at (Cleared.At place) status statuses = set statuses place status
-cleared_at (Cleared.First n) status statuses = stored_below (λ i. true) status statuses n
-
--- how many statuses there must be for that
-unfoldable pub reach_of : Cleared → ℕ
-reach_of (Cleared.At place) = suc place
-reach_of (Cleared.First n) = n

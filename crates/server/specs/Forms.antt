@@ -1,6 +1,7 @@
 -- Which bytes are which request, in plain numbers: document 01's forms, and the checks that fail (document 01, "Server").
-use Rattle.std.specs.Prelude.{◌≡◌, List, ◌≢◌, ℕ, ◌+◌, ◌*◌, ◌%◌, ◌^◌, ◌≤◌, ◌<◌, leb, get_or, length}
+use Rattle.std.specs.Prelude.{◌≡◌, List, ◌≢◌, ℕ, ◌+◌, ◌*◌, ◌%◌, ◌^◌, ◌≤◌, ◌<◌, leb, get_or, length, Result, Ok, Err}
 use Rattle.server.specs.declared.requests.Request.{Request}
+use Rattle.server.specs.declared.requests.Unread.{Unread}
 
 -- 11: "service unknown 11"
 pub data UnknownService (q : List ℕ) : Type 0 where
@@ -28,14 +29,14 @@ pub data WrongLength (q : List ℕ) : Type 0 where
   not_2_of_00 : get_or q 0 0 ≡ 0x3E → 2 ≤ length q → get_or q 1 0 % 2 ^ 7 ≡ 0x00 → length q ≢ 2 → WrongLength q
 
 -- the checks that fail, then each request with its numbers, high byte first, and whether bit 7 of its sub-function is set
-pub data Reads (q : List ℕ) : Request → Type 0 where
-  unknown_service : UnknownService q → Reads q Request.UnknownService
-  too_short : TooShort q → Reads q Request.TooShort
-  unknown_sub_function : UnknownSubFunction q → Reads q Request.UnknownSubFunction
-  wrong_length : WrongLength q → Reads q Request.WrongLength
-  clear_group : get_or q 0 0 ≡ 0x14 → length q ≡ 4 → Reads q (Request.ClearGroup (get_or q 1 0 * 65536 + get_or q 2 0 * 256 + get_or q 3 0))
-  count_by_mask : get_or q 0 0 ≡ 0x19 → get_or q 1 0 % 2 ^ 7 ≡ 0x01 → length q ≡ 3 → Reads q (Request.CountByMask (leb (2 ^ 7) (get_or q 1 0)) (get_or q 2 0))
-  list_by_mask : get_or q 0 0 ≡ 0x19 → get_or q 1 0 % 2 ^ 7 ≡ 0x02 → length q ≡ 3 → Reads q (Request.ListByMask (leb (2 ^ 7) (get_or q 1 0)) (get_or q 2 0))
-  list_all : get_or q 0 0 ≡ 0x19 → get_or q 1 0 % 2 ^ 7 ≡ 0x0A → length q ≡ 2 → Reads q (Request.ListAll (leb (2 ^ 7) (get_or q 1 0)))
-  read_data : get_or q 0 0 ≡ 0x22 → 3 ≤ length q → length q % 2 ≡ 1 → Reads q Request.ReadData
-  tester_present : get_or q 0 0 ≡ 0x3E → get_or q 1 0 % 2 ^ 7 ≡ 0x00 → length q ≡ 2 → Reads q (Request.TesterPresent (leb (2 ^ 7) (get_or q 1 0)))
+pub data Reads (q : List ℕ) : Result Request Unread → Type 0 where
+  unknown_service : UnknownService q → Reads q (Err Unread.UnknownService)
+  too_short : TooShort q → Reads q (Err Unread.TooShort)
+  unknown_sub_function : UnknownSubFunction q → Reads q (Err Unread.UnknownSubFunction)
+  wrong_length : WrongLength q → Reads q (Err Unread.WrongLength)
+  clear_group : get_or q 0 0 ≡ 0x14 → length q ≡ 4 → Reads q (Ok (Request.ClearGroup (get_or q 1 0 * 65536 + get_or q 2 0 * 256 + get_or q 3 0)))
+  count_by_mask : get_or q 0 0 ≡ 0x19 → get_or q 1 0 % 2 ^ 7 ≡ 0x01 → length q ≡ 3 → Reads q (Ok (Request.CountByMask (leb (2 ^ 7) (get_or q 1 0)) (get_or q 2 0)))
+  list_by_mask : get_or q 0 0 ≡ 0x19 → get_or q 1 0 % 2 ^ 7 ≡ 0x02 → length q ≡ 3 → Reads q (Ok (Request.ListByMask (leb (2 ^ 7) (get_or q 1 0)) (get_or q 2 0)))
+  list_all : get_or q 0 0 ≡ 0x19 → get_or q 1 0 % 2 ^ 7 ≡ 0x0A → length q ≡ 2 → Reads q (Ok (Request.ListAll (leb (2 ^ 7) (get_or q 1 0))))
+  read_data : get_or q 0 0 ≡ 0x22 → 3 ≤ length q → length q % 2 ≡ 1 → Reads q (Ok Request.ReadData)
+  tester_present : get_or q 0 0 ≡ 0x3E → get_or q 1 0 % 2 ^ 7 ≡ 0x00 → length q ≡ 2 → Reads q (Ok (Request.TesterPresent (leb (2 ^ 7) (get_or q 1 0))))

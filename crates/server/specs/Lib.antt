@@ -10,6 +10,7 @@ pub mod Requests
 pub mod Silence
 pub mod Forms
 pub mod Server
+pub mod Codes
 pub mod Negatives
 pub mod Status
 pub mod Told

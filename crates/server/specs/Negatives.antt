@@ -1,10 +1,9 @@
 -- Where a negative code is due for the content of a request, in its bytes: the form is right and the content is not (document 01, "Server").
-use Rattle.std.specs.Prelude.{◌≡◌, List, [], ◌∷◌, ◌≢◌, ℕ, ◌+◌, ◌*◌, ◌%◌, ◌≤◌, ◌<◌, get_or, length}
+use Rattle.std.specs.Prelude.{◌≡◌, List, [], ◌∷◌, ◌≢◌, ℕ, ◌+◌, ◌*◌, ◌%◌, ◌≤◌, ◌<◌, get_or, length, Some, None, Ok}
 use Rattle.identifiers.specs.Bytes.{written}
 use Rattle.server.specs.DataIdentifiers.{answers_of}
 use Rattle.server.specs.Server.{Effect, effect}
 use Rattle.server.specs.declared.trailer.TrailerRecord.{TrailerRecord}
-use Rattle.server.specs.declared.serving.Reply.TheVariants.{Silent, Sent}
 
 module _ (t : TrailerRecord) (q : List ℕ) where
   -- 31: "`FFFFFF` or a held code; .. Other groups 31", the group high first; "No asked identifier is held: 31", each of two bytes, high first
@@ -20,8 +19,8 @@ module _ (t : TrailerRecord) (q : List ℕ) where
 
 -- "Negative: `7F`, service, code": the record as it was, three bytes sent, and every byte of the buffer
 abbrev pub negative_sent : TrailerRecord → List ℕ → List ℕ → ℕ → Effect
-negative_sent t q response code = effect t (Sent 3) (written response 0 (0x7F ∷ get_or q 0 0 ∷ code ∷ []))
+negative_sent t q response code = effect t (Ok (Some 3)) (written response 0 (0x7F ∷ get_or q 0 0 ∷ code ∷ []))
 
 -- "all stay when silent"
 abbrev pub nothing_sent : TrailerRecord → List ℕ → Effect
-nothing_sent t response = effect t Silent response
+nothing_sent t response = effect t (Ok None) response

@@ -1,11 +1,10 @@
 -- The rules of a trailer record (document 01, "Server").
-use Rattle.std.specs.Prelude.{Bool, List, [], ℕ, ◌+◌, ◌-◌, eqb, ltb, leb, get_or}
+use Rattle.std.specs.Prelude.{Bool, List, ℕ, ◌+◌, ◌-◌, eqb, ltb, leb, get_or, Result, Ok, Err}
 use Rattle.std.specs.Int.Bits.{bit_and}
 use Rattle.identifiers.specs.Choice.{unless, both}
 use Rattle.identifiers.specs.Below.{all_below}
 use Rattle.identifiers.specs.Refusals.{refusal}
-use Rattle.identifiers.specs.declared.answer.Answer.{Answer}
-use Rattle.identifiers.specs.declared.answer.Answer.TheVariants.{Done, Refused}
+use Rattle.identifiers.specs.declared.refusal.Refusal.{Refusal}
 use Rattle.server.specs.Mask.{sound_mask}
 use Rattle.server.specs.declared.trailer.TrailerRecord.{TrailerRecord}
 
@@ -38,8 +37,8 @@ sound_record t =
     (both (both (both (both (both (sound_mask t.availability) (codes_below t)) (ascending t.codes t.count)) (statuses_within t)) (ascending t.identifiers t.held)) (lengths_within t))
 
 -- 1 "lent state breaks its rules"
-unfoldable pub checked_as : TrailerRecord → Answer
-checked_as t = unless (sound_record t) (Refused (refusal 1)) Done
+unfoldable pub checked_as : TrailerRecord → Result (Unit {0}) Refusal
+checked_as t = unless (sound_record t) (Err (refusal 1)) (Ok tt)
 
 -- a record with other statuses
 abbrev pub with_statuses : TrailerRecord → List ℕ → TrailerRecord
@@ -54,12 +53,3 @@ with_statuses t statuses =
       bytes = t.bytes;
       held = t.held;
     }
-
--- a record of its fields, for the contracts of functions that are handed them
-abbrev pub record_of : List ℕ → List ℕ → ℕ → ℕ → List ℕ → List ℕ → List ℕ → ℕ → TrailerRecord
-record_of codes statuses count availability identifiers lengths bytes held =
-    record { codes = codes; statuses = statuses; count = count; availability = availability; identifiers = identifiers; lengths = lengths; bytes = bytes; held = held }
-
--- service 22 is handed the data identifiers alone: a record of these
-abbrev pub data_alone : List ℕ → List ℕ → List ℕ → ℕ → TrailerRecord
-data_alone identifiers lengths bytes held = record_of [] [] 0 0 identifiers lengths bytes held

@@ -1,76 +1,51 @@
 // Services 14 and 19: the fault codes held, counted, listed and cleared.
-ghost use Rattle.std.specs.Prelude.{◌≡◌, true, List, ℕ, ◌+◌, ◌*◌, ◌≤◌, length, get_or};
+ghost use Rattle.std.specs.Prelude.{◌≡◌, ◌+◌, ◌*◌, ◌≤◌, length, get_or};
 ghost use Rattle.identifiers.specs.Below.{count_below, list_below};
 ghost use Rattle.identifiers.specs.Bytes.{Puts};
-ghost use Rattle.server.specs.Places.{place_among, held_among};
-ghost use Rattle.server.specs.Trailer.{ascending};
-ghost use Rattle.server.specs.Faults.{listed, code_and_status, two_bytes, reported, in_group, stored_below, cleared_at, reach_of};
-ghost use Rattle.server.specs.declared.faults.Cleared.TheVariants.{First};
+ghost use Rattle.server.specs.Trailer.{with_statuses};
+ghost use Rattle.server.specs.Faults.{listed, code_and_status, two_bytes, report_of, in_group, stored_below, cleared_of};
+
+use crate::places::count_where;
+use crate::sound::Sound;
+use crate::trailer::TrailerRecord;
 
 // The group that takes in every code.
 pub const ALL_GROUPS: u32 = 0xFFFFFF;
 
-// The place of a code, or count where it is not held.
-pub fn place_among(codes: &[u32; 63], count: usize, code: u32) -> usize
-    requires { count ≤ 63 }
-    ensures { result ≡ place_among codes.now count code }
-{
-    let mut i = 0;
-    while i < count {
-        if codes[i] == code {
-            return i;
-        }
-        i += 1;
-    }
-    count
-}
-
-// Is a code held: every place is looked at, so that no branch hangs on where it stands.
-pub fn is_held(codes: &[u32; 63], count: usize, code: u32) -> bool
-    requires { count ≤ 63 }
-    ensures { result ≡ held_among codes.now count code }
-{
-    let mut held = false;
-    let mut i = 0;
-    while i < count {
-        held = held | (codes[i] == code);
-        i += 1;
-    }
-    held
-}
-
+// A flag beside the mask, as `Faults.listed` has them, of which theorems speak.
 fn is_listed(all: bool, mask: u8, status: u8) -> bool
     ensures { result ≡ listed all mask status }
 {
     all | (status & mask != 0)
 }
 
-pub fn count_listed(statuses: &[u8; 63], all: bool, mask: u8, count: usize) -> usize
-    requires { count ≤ 63 }
-    ensures { result ≡ count_below (λ i. listed all mask (get_or statuses.now i 0)) count }
+pub fn count_listed(statuses: &[u8], all: bool, mask: u8) -> usize
+    requires { length statuses.now ≤ 63 }
+    ensures { result ≡ count_below (λ i. listed all mask (get_or statuses.now i 0)) (length statuses.now) }
 {
-    let mut n: u8 = 0;
-    let mut i = 0;
-    while i < count {
-        if is_listed(all, mask, statuses[i]) {
-            n += 1;
-        }
-        i += 1;
-    }
-    n as usize
+    count_where(statuses.len(), |i| is_listed(all, mask, statuses[i]))
 }
 
-// Writes a number in two bytes, high first, and says where the next byte goes.
+// Writes bytes from a place on, and says where the next byte goes. Buffer and place stand apart: of a struct that lends the buffer each contract would have to
+// say besides that it lends the same one. It asks for room, which no public function may: so it stands here, and is not `text`'s `put`.
+pub fn put(response: &mut [u8], at: usize, bytes: &[u8]) -> usize
+    requires { at + length bytes.now ≤ length response.old }
+    ensures { Puts response.old at bytes.now result response.new }
+{
+    let end = at + bytes.len();
+    response[at..end].copy_from_slice(bytes);
+    end
+}
+
+// A number in two bytes, high first.
 pub fn put_two(response: &mut [u8], at: usize, number: u16) -> usize
     requires { at + 2 ≤ length response.old }
     ensures { Puts response.old at (two_bytes number) result response.new }
 {
-    let low = at + 1;
-    response[at] = (number / 256 % 256) as u8;
-    response[low] = (number % 256) as u8;
-    low + 1
+    put(response, at, &number.to_be_bytes())
 }
 
+// Byte by byte: as one copy of an array `19 02` takes 1.07 to 1.11 of the time of the model, so 0.85. The reach of requests is 1.1.
 pub fn put_code_and_status(response: &mut [u8], at: usize, code: u32, status: u8) -> usize
     requires { at + 4 ≤ length response.old }
     ensures { Puts response.old at (code_and_status code status) result response.new }
@@ -78,67 +53,57 @@ pub fn put_code_and_status(response: &mut [u8], at: usize, code: u32, status: u8
     let middle = at + 1;
     let low = middle + 1;
     let last = low + 1;
-    response[at] = (code / 65536 % 256) as u8;
-    response[middle] = (code / 256 % 256) as u8;
-    response[low] = (code % 256) as u8;
+    let bytes = code.to_be_bytes();
+    response[at] = bytes[1];
+    response[middle] = bytes[2];
+    response[low] = bytes[3];
     response[last] = status;
     last + 1
 }
 
-// Writes code and status of each listed one, in order, and says where they end.
-pub fn put_report<'a>(
-    codes: &'a [u32; 63],
-    statuses: &'a [u8; 63],
-    all: bool,
-    mask: u8,
-    count: usize,
-    response: &mut [u8],
-    start: usize,
-) -> usize
-    requires { (count ≤ 63) × (start + 4 * count ≤ length response.old) }
-    ensures { Puts response.old start (list_below (λ i. reported all mask (get_or codes.now i 0) (get_or statuses.now i 0)) count) result response.new }
-{
-    let mut at = start;
-    let mut i = 0;
-    while i < count {
-        let status = statuses[i];
-        if is_listed(all, mask, status) {
-            at = put_code_and_status(response, at, codes[i], status);
+impl Sound<'_> {
+    // Writes code and status of each listed one, in order, and says where they end. Compiled into `serve`, `19 02` takes 1.10 of the time of the
+    // model, the whole reach of requests, so 0.85.
+    #[inline(never)]
+    pub fn put_report(&self, all: bool, mask: u8, response: &mut [u8], start: usize) -> usize
+        requires { start + 252 ≤ length response.old }
+        ensures { Puts response.old start (report_of self.now.record.now all mask) result response.new }
+    {
+        let mut at = start;
+        for (code, status) in self.codes().iter().zip(self.statuses()) {
+            if is_listed(all, mask, *status) {
+                at = put_code_and_status(response, at, *code, *status);
+            }
         }
-        i += 1;
+        at
     }
-    at
 }
 
-// Which statuses are cleared: that at one place, or the first so many.
-#[derive(Clone, Copy)]
-pub enum Cleared {
-    At(usize),
-    First(usize),
-}
-
-// What a group clears. Of codes that ascend none stands at two places.
-pub fn cleared_by_group(codes: &[u32; 63], count: usize, group: u32) -> Cleared
-    requires { (count ≤ 63) × (ascending codes.now count ≡ true) }
-    ensures { (reach_of result ≤ 63) × ((status : ℕ) (statuses : List ℕ) → cleared_at result status statuses ≡ stored_below (λ i. in_group group (get_or codes.now i 0)) status statuses count) }
+// Stores one status at each code of a group: by the place, since of what `iter_mut` writes a proof knows no element. A store at every code: where
+// only those of the group are written, `14` takes 1.18 of the time of the model, so 0.96. The reach of requests is 1.1.
+fn store_group(codes: &[u32; 63], statuses: &mut [u8; 63], count: usize, group: u32, status: u8)
+    requires { count ≤ 63 }
+    ensures { statuses.new ≡ stored_below (λ i. in_group group (get_or codes.now i 0)) status statuses.old count }
 {
-    if group == ALL_GROUPS {
-        return Cleared::First(count);
+    for i in 0..count {
+        let in_group = (group == ALL_GROUPS) | (codes[i] == group);
+        statuses[i] = if in_group { status } else { statuses[i] };
     }
-    let place = place_among(codes, count, group);
-    if place < count {
-        return Cleared::At(place);
-    }
-    Cleared::First(0)
 }
 
-pub fn clear_first(statuses: &mut [u8; 63], n: usize, status: u8)
-    requires { n ≤ 63 }
-    ensures { statuses.new ≡ cleared_at (First n) status statuses.old }
-{
-    let mut i = 0;
-    while i < n {
-        statuses[i] = status;
-        i += 1;
+impl TrailerRecord {
+    // Clears the statuses of a group. The count's limit is asked here: a `Sound` can't be held while the record is lent to be written.
+    pub(crate) fn clear(&mut self, group: u32)
+        requires { self.old.count ≤ 63 }
+        ensures { self.new ≡ with_statuses self.old (cleared_of self.old group) }
+    {
+        let status = 0x50 & self.availability;
+        store_group(
+            &self.codes,
+            &mut self.statuses,
+            self.count as usize,
+            group,
+            status,
+        );
     }
 }

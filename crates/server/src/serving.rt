@@ -1,33 +1,25 @@
 // The server by value: the record goes in, and its statuses come back.
-ghost use Rattle.std.specs.Prelude.{◌≡◌, true, false, List, ℕ, ◌≤◌, length};
-ghost use Rattle.std.specs.Int.Bits.{bit_and};
-ghost use Rattle.server.specs.Trailer.{ascending, sound_record, with_statuses, record_of};
-ghost use Rattle.server.specs.Faults.{cleared_at, reach_of};
-ghost use Rattle.server.specs.declared.faults.Cleared.TheVariants.{First};
-ghost use Rattle.server.specs.Requests.{request_of};
-ghost use Rattle.server.specs.Server.{changed_by, wrong_lengths, effect, answered, served_of};
+ghost use Rattle.std.specs.Prelude.{◌≡◌, ◌≤◌, length, Some, None, Ok};
+ghost use Rattle.identifiers.specs.Choice.{pick, both};
+ghost use Rattle.identifiers.specs.Bytes.{written};
+ghost use Rattle.server.specs.Codes.{code_number};
+ghost use Rattle.server.specs.Trailer.{with_statuses};
+ghost use Rattle.server.specs.Silence.{silenced, quiet_code};
+ghost use Rattle.server.specs.Server.{negative_of, negative_bytes, positive_of, changed_by, wrong_lengths, served_of};
 ghost use Rattle.server.specs.Told.{reply_told};
 
-use crate::answers::{put_negative, put_positive};
-use crate::checks::negative;
-use crate::faults::{Cleared, clear_first, cleared_by_group};
-use crate::requests::{Request, read_request};
-use crate::silence::silent_on;
-use crate::trailer::{TrailerRecord, sound_record};
+use crate::answers::put_negative;
+use crate::codes::NegativeCode;
+use crate::requests::{Request, RequestBytes};
+use crate::sound::Sound;
+use crate::trailer::{TrailerRecord, check};
 use identifiers::Refusal;
-
-#[derive(Clone, Copy)]
-pub enum Reply {
-    Refused(Refusal),
-    Silent,
-    Sent(usize),
-}
 
 // What a request leaves behind: of the record only the statuses can change.
 #[derive(Clone, Copy)]
 pub struct Served {
     pub statuses: [u8; 63],
-    pub reply: Reply,
+    pub reply: Result<Option<usize>, Refusal>,
 }
 
 // The reply in numbers: the refusal, 0 for none; is it silent; how many bytes are sent.
@@ -39,26 +31,20 @@ pub struct ReplyTold {
     pub length: usize,
 }
 
-impl Reply {
-    pub fn told(self) -> ReplyTold
-        ensures { result ≡ reply_told self }
-    {
-        match self {
-            Reply::Refused(why) => ReplyTold {
-                refusal: why.number(),
-                silent: false,
-                length: 0,
-            },
-            Reply::Silent => ReplyTold {
-                refusal: 0,
-                silent: true,
-                length: 0,
-            },
-            Reply::Sent(n) => ReplyTold {
-                refusal: 0,
-                silent: false,
-                length: n,
-            },
+impl From<Result<Option<usize>, Refusal>> for ReplyTold {
+    ghost from_gives = { λ reply told. told ≡ reply_told reply };
+
+    #[tactic(auto, unfolding(crate::specs::Told::reply_told))]
+    fn from(reply: Result<Option<usize>, Refusal>) -> ReplyTold {
+        let (refusal, silent, length) = match reply {
+            Err(why) => (why.number(), false, 0),
+            Ok(None) => (0, true, 0),
+            Ok(Some(n)) => (0, false, n),
+        };
+        ReplyTold {
+            refusal,
+            silent,
+            length,
         }
     }
 }
@@ -69,136 +55,87 @@ fn wrong_lengths(request: usize, response: usize) -> bool
     (request == 0) | (255 < request) | (response != 255)
 }
 
-// What a request comes to: the reply, and which statuses it clears.
-#[derive(Clone, Copy)]
-struct Settled {
-    reply: Reply,
-    cleared: Cleared,
-}
-
-// Which statuses a positive answer clears, whatever they are and whatever the data identifiers: nothing else of a record changes.
-fn cleared_by(codes: &[u32; 63], count: usize, asked: Request) -> Cleared
-    requires { (count ≤ 63) × (ascending codes.now count ≡ true) }
-    ensures { (reach_of result ≤ 63) × ((statuses : List ℕ) (availability : ℕ) (identifiers lengths bytes : List ℕ) (held : ℕ)
-        → record_of codes.now (cleared_at result (bit_and 0x50 availability) statuses) count availability identifiers lengths bytes held ≡ changed_by (record_of codes.now statuses count availability identifiers lengths bytes held) asked) }
+// Answers a request that has a negative code: how many bytes are sent, none where it is silent.
+fn answer_negatively(
+    response: &mut [u8; 255],
+    functional: bool,
+    service: u8,
+    code: NegativeCode,
+) -> Option<usize>
+    ensures { let quiet = both functional (quiet_code (code_number code)) in
+        (result ≡ pick quiet None (Some 3)) × (response.new ≡ pick quiet response.old (written response.old 0 (negative_bytes service (code_number code)))) }
 {
-    if let Request::ClearGroup { group } = asked {
-        return cleared_by_group(codes, count, group);
+    if functional & code.is_quiet() {
+        return None;
     }
-    Cleared::First(0)
+    Some(put_negative(response, service, code))
 }
 
-// A reply that clears nothing.
-fn unchanged(reply: Reply) -> Settled
-    ensures { (result.reply ≡ reply) × (result.cleared ≡ First 0) }
-{
-    let cleared = Cleared::First(0);
-    Settled { reply, cleared }
+impl Sound<'_> {
+    // Answers a request that has none.
+    fn answer_positively(
+        &self,
+        asked: Request,
+        request: RequestBytes,
+        response: &mut [u8; 255],
+    ) -> Option<usize>
+        requires { negative_of self.now.record.now (Ok asked) request.bytes.now ≡ 0 }
+        ensures { let silent = silenced (Ok asked) in
+            (result ≡ pick silent None (Some (length (positive_of self.now.record.now (Ok asked) request.entry.bytes.now))))
+            × (response.new ≡ pick silent response.old (written response.old 0 (positive_of self.now.record.now (Ok asked) request.entry.bytes.now))) }
+    {
+        if asked.silences() {
+            return None;
+        }
+        Some(self.put_positive(asked, request, response))
+    }
 }
 
-// Reads a request and answers it, to a record that keeps its rules.
+impl TrailerRecord {
+    // What a request that is answered positively changes. The count's limit, as at `clear`.
+    fn change(&mut self, asked: Request)
+        requires { self.old.count ≤ 63 }
+        ensures { self.new ≡ changed_by self.old (Ok asked) }
+    {
+        if let Request::ClearGroup { group } = asked {
+            self.clear(group);
+        }
+    }
+}
+
+// Refusal 1 where the record breaks its rules, 17 for the lengths; else as the request is read.
 // The negative code, the length and the silence are known before the first byte is written.
-fn answered<'a>(
-    codes: &'a [u32; 63],
-    statuses: &'a [u8; 63],
-    count: usize,
-    availability: u8,
-    identifiers: &'a [u16; 16],
-    lengths: &'a [u8; 16],
-    bytes: &'a [u8; 512],
-    held: usize,
+fn served_in(
+    record: &mut TrailerRecord,
     request: &[u8],
     functional: bool,
     response: &mut [u8],
-) -> Settled
-    requires { (sound_record (record_of codes.now statuses.now count availability identifiers.now lengths.now bytes.now held) ≡ true) × (wrong_lengths (length request.now) (length response.old) ≡ false) }
-    ensures { (reach_of result.cleared ≤ 63) × (effect (record_of codes.now (cleared_at result.cleared (bit_and 0x50 availability) statuses.now) count availability identifiers.now lengths.now bytes.now held) result.reply response.new
-        ≡ answered (record_of codes.now statuses.now count availability identifiers.now lengths.now bytes.now held) (request_of request.now) request.now functional response.old) }
+) -> Result<Option<usize>, Refusal>
+    ensures { («record».new ≡ (served_of «record».old request.now functional response.old).after)
+        × ((result ≡ (served_of «record».old request.now functional response.old).reply)
+        × (response.new ≡ (served_of «record».old request.now functional response.old).response)) }
 {
-    let asked = read_request(request);
-    let code = negative(
-        codes,
-        statuses,
-        count,
-        identifiers,
-        lengths,
-        bytes,
-        held,
-        asked,
-        request,
-    );
-    if silent_on(asked, functional, code) {
-        return unchanged(Reply::Silent);
-    }
-    if code != 0 {
-        let n = put_negative(response, request[0], code);
-        return unchanged(Reply::Sent(n));
-    }
-    let n = put_positive(
-        codes,
-        statuses,
-        count,
-        availability,
-        identifiers,
-        lengths,
-        bytes,
-        held,
-        asked,
-        request,
-        response,
-    );
-    let reply = Reply::Sent(n);
-    let cleared = cleared_by(codes, count, asked);
-    Settled { reply, cleared }
-}
-
-// Answers one request to a record in parts: refusal 1 where it breaks its rules, 17 for the lengths; else as the request is read.
-fn serve_parts<'a>(
-    codes: &'a [u32; 63],
-    statuses: &'a [u8; 63],
-    count: u8,
-    availability: u8,
-    identifiers: &'a [u16; 16],
-    lengths: &'a [u8; 16],
-    bytes: &'a [u8; 512],
-    held: u8,
-    request: &[u8],
-    functional: bool,
-    response: &mut [u8],
-) -> Settled
-    ensures { (reach_of result.cleared ≤ 63) × (effect (record_of codes.now (cleared_at result.cleared (bit_and 0x50 availability) statuses.now) count availability identifiers.now lengths.now bytes.now held) result.reply response.new
-        ≡ served_of (record_of codes.now statuses.now count availability identifiers.now lengths.now bytes.now held) request.now functional response.old) }
-{
-    if !sound_record(
-        codes,
-        statuses,
-        count,
-        availability,
-        identifiers,
-        lengths,
-        held,
-    ) {
-        return unchanged(Reply::Refused(Refusal::RulesBroken));
-    }
+    check(record)?;
     if wrong_lengths(request.len(), response.len()) {
-        return unchanged(Reply::Refused(Refusal::WrongLength));
+        return Err(Refusal::WrongLength);
     }
-    answered(
-        codes,
-        statuses,
-        count as usize,
-        availability,
-        identifiers,
-        lengths,
-        bytes,
-        held as usize,
-        request,
-        functional,
-        response,
-    )
+    let Some(buffer) = response.first_chunk_mut() else {
+        return Err(Refusal::WrongLength);
+    };
+    let sound = Sound { record };
+    let received = RequestBytes { bytes: request };
+    match sound.accept(received) {
+        Err(code) => Ok(answer_negatively(buffer, functional, request[0], code)),
+        Ok(asked) => {
+            let sent = sound.answer_positively(asked, received, buffer);
+            record.change(asked);
+            Ok(sent)
+        }
+    }
 }
 
-// Answers one request.
+// Answers one request. By value, and not to a record that is lent: document 01 names the form, "one thin function takes the record by
+// &mut, calls the by-value server and stores the result".
 pub fn serve(
     mut record: TrailerRecord,
     request: &[u8],
@@ -209,30 +146,7 @@ pub fn serve(
         × ((result.reply ≡ (served_of «record» request.now functional response.old).reply)
         × (response.new ≡ (served_of «record» request.now functional response.old).response)) }
 {
-    let settled = serve_parts(
-        &record.codes,
-        &record.statuses,
-        record.count,
-        record.availability,
-        &record.identifiers,
-        &record.lengths,
-        &record.bytes,
-        record.held,
-        request,
-        functional,
-        response,
-    );
-    let status = 0x50 & record.availability;
-    let cleared = settled.cleared;
-    match cleared {
-        Cleared::At(place) => {
-            record.statuses[place] = status;
-        }
-        Cleared::First(n) => {
-            clear_first(&mut record.statuses, n, status);
-        }
-    }
+    let reply = served_in(&mut record, request, functional, response);
     let statuses = record.statuses;
-    let reply = settled.reply;
     Served { statuses, reply }
 }

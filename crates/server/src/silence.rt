@@ -1,39 +1,39 @@
 // Which answers are not sent.
-ghost use Rattle.std.specs.Prelude.{◌≡◌};
-ghost use Rattle.server.specs.Silence.{silenced, quiet_code, silent_on};
+ghost use Rattle.std.specs.Prelude.{◌≡◌, Ok};
+ghost use Rattle.server.specs.Codes.{code_number};
+ghost use Rattle.server.specs.Silence.{silenced, quiet_code};
 
+use crate::codes::NegativeCode;
 use crate::requests::Request;
 
-#[tactic(auto, unfolding(crate::specs::Silence::silenced))]
-fn silenced(asked: Request) -> bool
-    ensures { result ≡ silenced asked }
-{
-    match asked {
-        Request::UnknownService => false,
-        Request::TooShort => false,
-        Request::UnknownSubFunction => false,
-        Request::WrongLength => false,
-        Request::ClearGroup { group: _ } => false,
-        Request::CountByMask { silent, mask: _ } => silent,
-        Request::ListByMask { silent, mask: _ } => silent,
-        Request::ListAll { silent } => silent,
-        Request::ReadData => false,
-        Request::TesterPresent { silent } => silent,
+impl Request {
+    // Is a positive answer silenced by bit 7 of the sub-function.
+    #[tactic(auto, unfolding(crate::specs::Silence::silenced))]
+    pub fn silences(self) -> bool
+        ensures { result ≡ silenced (Ok self) }
+    {
+        match self {
+            Request::CountByMask { silent, mask: _ } => silent,
+            Request::ListByMask { silent, mask: _ } => silent,
+            Request::ListAll { silent } => silent,
+            Request::TesterPresent { silent } => silent,
+            Request::ClearGroup { group: _ } | Request::ReadData => false,
+        }
     }
 }
 
-fn quiet_code(code: u8) -> bool
-    ensures { result ≡ quiet_code code }
-{
-    (code == 0x11) | (code == 0x12) | (code == 0x31)
-}
-
-// Is nothing sent, with that negative code, 0 where the answer is positive.
-pub fn silent_on(asked: Request, functional: bool, code: u8) -> bool
-    ensures { result ≡ silent_on asked functional code }
-{
-    if code == 0 {
-        return silenced(asked);
+impl NegativeCode {
+    // Is a functional request silent on a code.
+    #[tactic(auto, unfolding(crate::specs::Silence::quiet_code, identifiers::specs::Choice::either))]
+    pub fn is_quiet(self) -> bool
+        ensures { result ≡ quiet_code (code_number self) }
+    {
+        match self {
+            NegativeCode::ServiceNotSupported => true,
+            NegativeCode::SubFunctionNotSupported => true,
+            NegativeCode::RequestOutOfRange => true,
+            NegativeCode::IncorrectLength => false,
+            NegativeCode::ResponseTooLong => false,
+        }
     }
-    functional & quiet_code(code)
 }

@@ -1,13 +1,16 @@
 // The trailer record, and the test of its rules: one loop over each array.
-ghost use Rattle.std.specs.Prelude.{◌≡◌, List, ℕ, ◌≤◌, ltb, get_or};
+ghost use Rattle.std.specs.Prelude.{◌≡◌, ltb, get_or, length, fold, bit_or, nat_le, ◌&&◌};
+ghost use Rattle.std.specs.List.{list_all};
 ghost use Rattle.identifiers.specs.Choice.{both};
 ghost use Rattle.identifiers.specs.Below.{all_below};
-ghost use Rattle.server.specs.Trailer.{ascending, status_within, length_within, sound_record, record_of, checked_as};
+ghost use Rattle.server.specs.Trailer.{ascending, status_within, sound_record, checked_as};
 
 use crate::mask::sound_mask;
-use identifiers::{Answer, Refusal};
+use crate::places::ascend;
+use identifiers::Refusal;
 
-// The places past count, past held, and past a datum's length are free. Each identifier has 32 bytes of room.
+// Arrays and counts as C lends them (`castanhiu_record`), on no heap: the places past count, past held, and past a datum's length are free.
+// Each identifier has 32 bytes of room.
 #[repr(C)]
 #[derive(Clone, Copy)]
 pub struct TrailerRecord {
@@ -21,116 +24,62 @@ pub struct TrailerRecord {
     pub held: u8,
 }
 
-fn codes_ascend(codes: &[u32; 63], count: usize) -> bool
-    requires { count ≤ 63 }
-    ensures { result ≡ ascending codes.now count }
-{
-    let mut sound = true;
-    let mut i = 0;
-    while i + 1 < count {
-        sound = sound & (codes[i] < codes[i + 1]);
-        i += 1;
-    }
-    sound
-}
-
-// The last of codes that ascend is the greatest: it alone is held against FFFFFF.
-fn sound_codes(codes: &[u32; 63], count: usize) -> bool
-    requires { count ≤ 63 }
-    ensures { result ≡ both (all_below (λ i. ltb (get_or codes.now i 0) 0xFFFFFF) count) (ascending codes.now count) }
-{
-    if count == 0 {
-        return true;
-    }
-    let last = count - 1;
-    codes_ascend(codes, count) & (codes[last] < 0xFFFFFF)
-}
-
 pub fn status_within(availability: u8, status: u8) -> bool
     ensures { result ≡ status_within availability status }
 {
     status & availability == status
 }
 
+// The last of codes that ascend is the greatest: it alone is held against FFFFFF.
+fn sound_codes(codes: &[u32]) -> bool
+    ensures { result ≡ both (all_below (λ i. ltb (get_or codes.now i 0) 0xFFFFFF) (length codes.now)) (ascending codes.now (length codes.now)) }
+{
+    let Some(last) = codes.last() else {
+        return true;
+    };
+    ascend(codes) & (*last < 0xFFFFFF)
+}
+
 // The bits of all statuses together are within where those of each are.
-fn statuses_within(statuses: &[u8; 63], availability: u8, count: usize) -> bool
-    requires { count ≤ 63 }
-    ensures { result ≡ all_below (λ i. status_within availability (get_or statuses.now i 0)) count }
+fn statuses_within(statuses: &[u8], availability: u8) -> bool
+    ensures { result ≡ status_within availability (fold bit_or 0 statuses.now) }
 {
-    let mut bits = 0;
-    let mut i = 0;
-    while i < count {
-        bits = bits | statuses[i];
-        i += 1;
-    }
-    status_within(availability, bits)
+    status_within(
+        availability,
+        statuses.iter().fold(0, |bits, status| bits | *status),
+    )
 }
 
-fn identifiers_ascend(identifiers: &[u16; 16], held: usize) -> bool
-    requires { held ≤ 16 }
-    ensures { result ≡ ascending identifiers.now held }
+fn lengths_within(lengths: &[u8]) -> bool
+    ensures { result ≡ list_all (λ n. nat_le 1 n && nat_le n 32) lengths.now }
 {
-    let mut sound = true;
-    let mut k = 0;
-    while k + 1 < held {
-        sound = sound & (identifiers[k] < identifiers[k + 1]);
-        k += 1;
-    }
-    sound
+    lengths.iter().all(|n| (1 <= *n) & (*n <= 32))
 }
 
-fn lengths_within(lengths: &[u8; 16], held: usize) -> bool
-    requires { held ≤ 16 }
-    ensures { result ≡ all_below (λ k. length_within (get_or lengths.now k 0)) held }
-{
-    let mut sound = true;
-    let mut k = 0;
-    while k < held {
-        sound = sound & ((1 <= lengths[k]) & (lengths[k] <= 32));
-        k += 1;
+impl TrailerRecord {
+    // Does a record keep its rules, whatever its data bytes are.
+    pub(crate) fn is_sound(&self) -> bool
+        ensures { result ≡ sound_record self.now }
+    {
+        if 63 < self.count || 16 < self.held {
+            return false;
+        }
+        let count = self.count as usize;
+        let held = self.held as usize;
+        sound_mask(self.availability)
+            & sound_codes(&self.codes[..count])
+            & statuses_within(&self.statuses[..count], self.availability)
+            & ascend(&self.identifiers[..held])
+            & lengths_within(&self.lengths[..held])
     }
-    sound
-}
-
-// Does a record keep its rules, whatever its data bytes are.
-pub fn sound_record<'a>(
-    codes: &'a [u32; 63],
-    statuses: &'a [u8; 63],
-    count: u8,
-    availability: u8,
-    identifiers: &'a [u16; 16],
-    lengths: &'a [u8; 16],
-    held: u8,
-) -> bool
-    ensures { (bytes : List ℕ) → result ≡ sound_record (record_of codes.now statuses.now count availability identifiers.now lengths.now bytes held) }
-{
-    if 63 < count {
-        return false;
-    }
-    if 16 < held {
-        return false;
-    }
-    sound_mask(availability)
-        & sound_codes(codes, count as usize)
-        & statuses_within(statuses, availability, count as usize)
-        & identifiers_ascend(identifiers, held as usize)
-        & lengths_within(lengths, held as usize)
 }
 
 // Does a record keep its rules: refusal 1 where it does not.
-pub fn check(record: TrailerRecord) -> Answer
-    ensures { result ≡ checked_as «record» }
+pub fn check(record: &TrailerRecord) -> Result<(), Refusal>
+    ensures { result ≡ checked_as «record».now }
 {
-    if sound_record(
-        &record.codes,
-        &record.statuses,
-        record.count,
-        record.availability,
-        &record.identifiers,
-        &record.lengths,
-        record.held,
-    ) {
-        return Answer::Done;
+    if record.is_sound() {
+        return Ok(());
     }
-    Answer::Refused(Refusal::RulesBroken)
+    Err(Refusal::RulesBroken)
 }

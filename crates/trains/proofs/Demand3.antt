@@ -9,7 +9,6 @@ use lib.Dec.{lit<, lit≤}
 use lib.ListN.{length, replicate, length-replicate}
 use Rattle.readings.specs.Positions.{place_of}
 use Rattle.readings.specs.declared.position.Position.{Position}
-use Rattle.receiver.specs.declared.cutter.FrameCut.{FrameCut}
 use Rattle.receiver.specs.Frames.{Frame}
 use Rattle.trains.specs.Sequences.{Line, start, ◌▹◌, Request, Stands, ReadAs, none_yet, no_more, one_more}
 use Rattle.trains.specs.Runs.{Held, handed_at, requests}
@@ -148,4 +147,4 @@ module _ (own : Position) (unit : ℕ) where
   cut-taken-apart p m other t = (cut-single own unit p m other t, λ long most. cut-first own unit p m other long most t, λ long most k l. cut-consecutive own unit p m other long most k t l)
 
 pub cutter-refuses : CutterRefuses
-cutter-refuses m k from to unit = ((only-16 m k from to unit, λ u. ap (λ (c : FrameCut). c.answer) (cut-16 m k from to unit u) ∙ none-16), cut-16 m k from to unit)
+cutter-refuses m k from to unit = ((only-16 m k from to unit, λ u. cut-16 m k from to unit u ∙ none-16), cut-16 m k from to unit)

@@ -1,4 +1,5 @@
 -- The bytes of a train: a complete one has exactly L, and they are those that its frames carry, in order.
+use Rattle.std.proofs.Common.{Ok}
 use mathlib.Core.Path.{◌≡◌, refl, sym, ap, ◌∙◌}
 use mathlib.Core.Bool.{Bool}
 use mathlib.Core.List.{List, ◌∷◌, ◌++◌, append-nil, append_assoc}
@@ -33,7 +34,7 @@ module _ {own : Position} {unit : ℕ} {p : Position} where
       ∙ ap (λ (a : List ℕ). a ++ take 6 (drop 2 f.bytes)) (gathered-bytes w)
       ∙ append_assoc (take 5 (drop 3 (first_frame w).bytes)) (carried (followers w)) (take 6 (drop 2 f.bytes))
 
-  first-names : {h : Line} {L k t : ℕ} {b : List ℕ} (w : Underway own unit p h L k t b) → seen own unit (first_frame w) ≡ First p L
+  first-names : {h : Line} {L k t : ℕ} {b : List ℕ} (w : Underway own unit p h L k t b) → seen own unit (first_frame w) ≡ Ok (First p L)
   first-names (begins e u c) = e
   first-names (passes w x) = first-names w
   first-names (goes_on w n u l) = first-names w

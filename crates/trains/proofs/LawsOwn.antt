@@ -1,4 +1,5 @@
 -- A train is judged by its own vehicle's frames alone: frames that stand elsewhere may be left out of the sequence.
+use Rattle.std.proofs.Common.{Result}
 use mathlib.Core.Path.{◌≡◌, refl, sym, ap, ◌∙◌, subst}
 use mathlib.Core.Bool.{Bool, true, false}
 use mathlib.Core.List.{List}
@@ -8,6 +9,7 @@ use borrow.Author.Tests.{eqb-false}
 use Rattle.identifiers.specs.Choice.{pick}
 use Rattle.identifiers.specs.Identifiers.{fields_of}
 use Rattle.identifiers.proofs.LawsIdentifiers.{source_is}
+use Rattle.identifiers.specs.declared.refusal.Refusal.{Refusal}
 use Rattle.readings.specs.Positions.{address_of}
 use Rattle.readings.specs.declared.position.Position.{Position}
 use Rattle.receiver.specs.declared.frame.Judged.{Judged}
@@ -19,7 +21,7 @@ use Rattle.trains.proofs.LawsFates.{Mine, a-single, a_first, an-over-long, a-con
 
 module _ (own : Position) (unit : ℕ) (p : Position) where
   -- ---- whose frame it is, by its SA
-  mine-source : (n : ℕ) (bytes : List ℕ) (j : Judged) → Mine p j → Fair own unit n bytes j → (fields_of n).source ≡ address_of p
+  mine-source : (n : ℕ) (bytes : List ℕ) (j : Result Judged Refusal) → Mine p j → Fair own unit n bytes j → (fields_of n).source ≡ address_of p
   mine-source n bytes _ a-single s = s.0.source
   mine-source n bytes _ a_first s = s.0.source
   mine-source n bytes _ an-over-long s = s.0.source

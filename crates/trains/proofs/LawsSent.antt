@@ -1,4 +1,5 @@
 -- A message that is cut and sent in time stands in the sequence, unchanged, at its last frame; nothing stands at the frames before it.
+use Rattle.std.proofs.Common.{Ok}
 use mathlib.Core.Path.{◌≡◌, refl, sym, ap, ◌∙◌}
 use mathlib.Core.Bool.{Bool, false}
 use mathlib.Core.List.{List, ◌∷◌, ◌++◌}
@@ -113,7 +114,7 @@ module _ (own : Position) (unit : ℕ) (p : Position) (m : List ℕ) (other : pl
 
       quiet : (k : ℕ) → suc k < frame_count (length m) → (q : Position) (functional : Bool) (n : List ℕ) → Stands own unit q functional (after k) (cut_frame own unit p m k (stamps k)) n → ⊥
       unfolding Follows
-      quiet zero l = none-stands own unit (First p (length m)) tt (cut-first own unit p m other (many-frames l (dec_lt _ _)) most (stamps zero)).kind
+      quiet zero l = none-stands own unit (Ok (First p (length m))) tt (cut-first own unit p m other (many-frames l (dec_lt _ _)) most (stamps zero)).kind
       quiet (suc k) l =
           let long = many-frames l (dec_lt _ _) in
           let w = is-underway long most (sends-sent k (omega arith)) (omega arith) in

@@ -1,4 +1,5 @@
 -- What stands in a sequence, by the relation alone: one train of a vehicle at most is under way, one request at most ends at a frame, one reading.
+use Rattle.std.proofs.Common.{Ok}
 use mathlib.Core.Path.{◌≡◌, refl, sym, ap, ◌∙◌, subst}
 use mathlib.Core.Bool.{Bool}
 use mathlib.Core.List.{List, ◌++◌}
@@ -37,12 +38,12 @@ pub record Alike (p q : Position) (flag other : Bool) (m n : List ℕ) : Type 0 
 
 module _ {own : Position} {unit : ℕ} where
   -- ---- the ways in which a train takes a frame exclude one another
-  passed_first : {p : Position} {L M : ℕ} {b : List ℕ} {f : Frame} → Passed own unit p L b f → seen own unit f ≡ First p M → ⊥
+  passed_first : {p : Position} {L M : ℕ} {b : List ℕ} {f : Frame} → Passed own unit p L b f → seen own unit f ≡ Ok (First p M) → ⊥
   unfolding physical_of
   passed_first (elsewhere x) e = x (ap physical_of e)
   passed_first (too_short d l) e = let z : ◌≡◌ {A = ℕ} 0 1 = cc in omega arith
 
-  first_next : {p : Position} {L M k t : ℕ} {b c : List ℕ} {f : Frame} → seen own unit f ≡ First p M → Next own unit p L k t b f c → ⊥
+  first_next : {p : Position} {L M k t : ℕ} {b c : List ℕ} {f : Frame} → seen own unit f ≡ Ok (First p M) → Next own unit p L k t b f c → ⊥
   first_next e n = let d = n.in_order in let z : ◌≡◌ {A = ℕ} 0 1 = cc in omega arith
 
   pub passed-next : {p : Position} {L M k t : ℕ} {a b c : List ℕ} {f : Frame} → Passed own unit p L a f → Next own unit p M k t b f c → L ≡ M → a ≡ b → ⊥

@@ -1,17 +1,19 @@
 -- A fresh node that is offered a sequence holds, for each vehicle, what the sequence says, and hands out at each frame what stands there: by induction on the sequence.
+use Rattle.std.specs.Prelude.{Some}
+use Rattle.std.proofs.Common.{Result, Ok, Err}
 use mathlib.Core.Path.{◌≡◌, refl, sym, ap, ◌∙◌, subst}
 use mathlib.Core.Bool.{true, false}
 use mathlib.Core.List.{List}
 use Prim.Native.Nat.{ℕ, ◌+◌, ◌*◌, ◌≤◌}
 use native.Mathlib.Omega.{arith}
 use lib.ListN.{length}
+use Rattle.identifiers.specs.declared.refusal.Refusal.{Refusal}
 use Rattle.readings.specs.Positions.{place_of, trailer_at}
 use Rattle.readings.specs.declared.position.Position.{Position}
-use Rattle.readings.specs.declared.position.Vehicle.TheVariants.{At}
 use Rattle.readings.proofs.LawsPositions.{place-below, trailer-back}
 use Rattle.receiver.specs.declared.reception.Reception.{Reception}
 use Rattle.receiver.specs.declared.frame.Judged.{Judged}
-use Rattle.receiver.specs.declared.frame.Judged.TheVariants.{Refused, Single, First, OverLong, Consecutive}
+use Rattle.receiver.specs.declared.frame.Judged.TheVariants.{Single, First, OverLong, Consecutive}
 use Rattle.receiver.specs.Frames.{Frame}
 use Rattle.receiver.specs.Steps.{Step, step_of, written_by, judged_place}
 use Rattle.receiver.specs.Receiving.{buffer_after}
@@ -29,7 +31,7 @@ use Rattle.trains.proofs.LawsSequences.{bounded}
 use Rattle.trains.proofs.LawsFates.{Mine, a-single, a_first, an-over-long, a-consecutive, mine, whose, rests-on}
 use Rattle.trains.proofs.LawsViews.{View, resting, receiving, Verdict, nothing, Advances, hands-out-by, single-out, none-stands, advance-mine}
 
-mine-place : {q : Position} {j : Judged} → Mine q j → judged_place j ≡ place_of q
+mine-place : {q : Position} {j : Result Judged Refusal} → Mine q j → judged_place j ≡ place_of q
 mine-place a-single = refl
 mine-place a_first = refl
 mine-place an-over-long = refl
@@ -51,13 +53,13 @@ module _ (own : Position) (unit : ℕ) where
 
   module _ (at-least : 1 ≤ place_of own) (h : Line) (f : Frame) (x : Held) (t : Tracks h x) where
     -- what the frame does if it is judged so, and what that hands out
-    abbrev step_on : Judged → Step
+    abbrev step_on : Result Judged Refusal → Step
     step_on i = step_of (reception_at x.node (judged_place i)) i (length f.bytes) f.stamp
 
     abbrev HandsOut : Step → Type 0
     HandsOut s = Verdict own unit h f (handed (size h) s.outcome f.bytes (written_by x.buffer s f.bytes))
 
-    abbrev j : Judged
+    abbrev j : Result Judged Refusal
     j = seen own unit f
 
     abbrev step : Step
@@ -69,7 +71,7 @@ module _ (own : Position) (unit : ℕ) where
     abbrev ViewAfter : Position → Type 0
     ViewAfter q = View own unit q (h ▹ f) (reception_at after.node (place_of q)) after.buffer
 
-    at_own : trailer_at x.node.own ≡ At own
+    at_own : trailer_at x.node.own ≡ Some own
     at_own = ap trailer_at t.own-place ∙ trailer-back own at-least
 
     answer-is : answer x f ≡ record { node = after.node; outcome = step.outcome }
@@ -85,7 +87,7 @@ module _ (own : Position) (unit : ℕ) where
         step-fitted own unit f.identifier _ f.bytes f.stamp j reception least (fair own unit f.identifier f.bytes j refl)
 
     -- ---- the vehicle whose physical frame it is
-    advance : (q : Position) (i : Judged) → seen own unit f ≡ i → Mine q i → Advances own unit q h f x.buffer (step_of (reception_at x.node (place_of q)) i (length f.bytes) f.stamp)
+    advance : (q : Position) (i : Result Judged Refusal) → seen own unit f ≡ i → Mine q i → Advances own unit q h f x.buffer (step_of (reception_at x.node (place_of q)) i (length f.bytes) f.stamp)
     advance q i e m = advance-mine own unit q h f (reception_at x.node (place_of q)) x.buffer t.room i e m (t.views q)
 
     view-mine : (q : Position) → Mine q j → ViewAfter q
@@ -104,19 +106,19 @@ module _ (own : Position) (unit : ℕ) where
         let b = bounded w in
         receiving (m.reception ∙ e) (subst (Underway own unit q (h ▹ f) L k u) (sym (m.part (5 + 6 * k) (omega arith))) (passes w (elsewhere n)))
 
-    view-after : (q : Position) → Dec (physical_of j ≡ At q) → ViewAfter q
+    view-after : (q : Position) → Dec (physical_of j ≡ Some q) → ViewAfter q
     view-after q (yes e) = view-mine q (mine q j e)
     view-after q (no n) = view-elsewhere q n (t.views q)
 
     -- ---- what is handed out
-    hands_out : (i : Judged) → seen own unit f ≡ i → HandsOut (step_on i)
+    hands_out : (i : Result Judged Refusal) → seen own unit f ≡ i → HandsOut (step_on i)
     unfolding handed
-    hands_out (Refused why) e = hands-out-by own unit (refused-gives x.buffer f.bytes _ _ _ why) (nothing refl (none-stands own unit (Refused why) tt e))
-    hands_out (Single p true L) e = hands-out-by own unit (functional-gives x.buffer f.bytes _ _ _ p L) (single-out own unit x.buffer e)
-    hands_out (Single p false L) e = (advance p _ e a-single).verdict
-    hands_out (First p L) e = (advance p _ e a_first).verdict
-    hands_out (OverLong p) e = (advance p _ e an-over-long).verdict
-    hands_out (Consecutive p n) e = (advance p _ e a-consecutive).verdict
+    hands_out (Err why) e = hands-out-by own unit (refused-gives x.buffer f.bytes _ _ _ why) (nothing refl (none-stands own unit (Err why) tt e))
+    hands_out (Ok (Single p true L)) e = hands-out-by own unit (functional-gives x.buffer f.bytes _ _ _ p L) (single-out own unit x.buffer e)
+    hands_out (Ok (Single p false L)) e = (advance p _ e a-single).verdict
+    hands_out (Ok (First p L)) e = (advance p _ e a_first).verdict
+    hands_out (Ok (OverLong p)) e = (advance p _ e an-over-long).verdict
+    hands_out (Ok (Consecutive p n)) e = (advance p _ e a-consecutive).verdict
 
     -- one frame further
     pub tracks_on : Tracks (h ▹ f) (next x f)

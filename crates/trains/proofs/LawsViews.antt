@@ -1,4 +1,5 @@
 -- A reception and its part of the buffer hold what the sequence says of their vehicle, and a physical frame of that vehicle takes this on to the next frame.
+use Rattle.std.proofs.Common.{Result, Ok, Err}
 use mathlib.Core.Path.{◌≡◌, refl, sym, ap, ◌∙◌, subst}
 use mathlib.Core.Bool.{Bool, false}
 use mathlib.Core.List.{List, [], ◌∷◌, ◌++◌}
@@ -14,18 +15,18 @@ use Rattle.identifiers.proofs.LawsParts.{grows}
 use Rattle.readings.specs.declared.position.Position.{Position}
 use Rattle.receiver.specs.declared.reception.Reception.{Reception}
 use Rattle.receiver.specs.declared.frame.Judged.{Judged}
-use Rattle.receiver.specs.declared.frame.Judged.TheVariants.{Refused, Single, First, OverLong, Consecutive}
+use Rattle.receiver.specs.declared.frame.Judged.TheVariants.{Single, First, OverLong, Consecutive}
 use Rattle.receiver.specs.declared.outcome.Outcome.{Outcome}
 use Rattle.receiver.specs.declared.outcome.Outcome.TheVariants as outcome
 use Rattle.receiver.specs.Receptions.{closed, open_with, region_at}
 use Rattle.receiver.specs.Frames.{Frame}
-use Rattle.receiver.specs.Steps.{Step, closing, followed, step_of, written_by}
+use Rattle.receiver.specs.Steps.{Step, closing, followed, step_of, written_by, Gives}
 use Rattle.trains.specs.Sequences.{Line, ◌▹◌, size, physical_of, due, Request, seen, elsewhere, too_short, Next, Underway, begins, passes, goes_on, Complete, Stands, single, train}
 use Rattle.trains.specs.Runs.{handed}
 use Rattle.receiver.proofs.LawsFrames.{fair}
 use Rattle.receiver.proofs.LawsFollowed.{consecutive-step, nothing-open, followed-short, followed-wrong, followed-late, followed-on, followed-last}
 use Rattle.receiver.proofs.LawsSteps.{region-fits}
-use Rattle.receiver.proofs.LawsGiven.{Gives, leaving-gives, closing-gives, stores-gives, physical-gives, over-long-gives, first_gives, shown-single, shown-train}
+use Rattle.receiver.proofs.LawsGiven.{leaving-gives, closing-gives, stores-gives, physical-gives, over-long-gives, first_gives, shown-single, shown-train}
 use Rattle.trains.specs.Terms.{Rests, Ends, by_single, by_first, by_over_long, by_number, by_lateness, Fate, passed_over, taken, completes, ended, Follows}
 use Rattle.trains.proofs.LawsSequences.{grown, bounded}
 use Rattle.trains.proofs.LawsFates.{Mine, a-single, a_first, an-over-long, a-consecutive, fate, rests-on, follows}
@@ -47,48 +48,48 @@ module _ (own : Position) (unit : ℕ) where
     pub verdict : Verdict h f (handed (size h) s.outcome f.bytes (written_by buffer s f.bytes))
 
   -- what a step hands out, by what it gives; and what it leaves too
-  pub hands-out-by : {h : Line} {f : Frame} {buffer : List ℕ} {s : Step} {r : Reception} {o : Outcome} {after : List ℕ} → Gives buffer f.bytes s r o after
+  pub hands-out-by : {h : Line} {f : Frame} {buffer : List ℕ} {s : Step} {r : Reception} {o : Result Outcome Refusal} {after : List ℕ} → Gives buffer f.bytes s r o after
       → Verdict h f (handed (size h) o f.bytes after) → Verdict h f (handed (size h) s.outcome f.bytes (written_by buffer s f.bytes))
   hands-out-by g v = rw (g.leaves, g.outcome) v
 
-  advances-by : {p : Position} {h : Line} {f : Frame} {buffer : List ℕ} {s : Step} {r : Reception} {o : Outcome} {after : List ℕ} → Gives buffer f.bytes s r o after
+  advances-by : {p : Position} {h : Line} {f : Frame} {buffer : List ℕ} {s : Step} {r : Reception} {o : Result Outcome Refusal} {after : List ℕ} → Gives buffer f.bytes s r o after
       → View p (h ▹ f) r after → Verdict h f (handed (size h) o f.bytes after) → Advances p h f buffer s
   advances-by g w v = record { view = rw (g.leaves, g.reception) w; verdict = hands-out-by g v }
 
   -- a single frame is handed out
-  pub single-out : {p : Position} {functional : Bool} {L : ℕ} {h : Line} {f : Frame} (after : List ℕ) → seen own unit f ≡ Single p functional L
-      → Verdict h f (handed (size h) (outcome.Single p functional L) f.bytes after)
+  pub single-out : {p : Position} {functional : Bool} {L : ℕ} {h : Line} {f : Frame} (after : List ℕ) → seen own unit f ≡ Ok (Single p functional L)
+      → Verdict h f (handed (size h) (Ok (outcome.Single p functional L)) f.bytes after)
   unfolding handed
   single-out {p} {functional} {L} {h} {f} after is =
       one (ap (λ (m : List ℕ). record { at = size h; from = p; functional = functional; bytes = m } ∷ []) (shown-single f.bytes after p functional L)) (single is refl)
 
   -- ---- frames with which no request ends
-  abbrev Silent : Judged → Type 0
-  Silent (Refused why) = Unit {0}
-  Silent (Single p functional L) = ⊥
-  Silent (First p L) = Unit {0}
-  Silent (OverLong p) = Unit {0}
-  Silent (Consecutive p n) = ⊥
+  abbrev Silent : Result Judged Refusal → Type 0
+  Silent (Err why) = Unit {0}
+  Silent (Ok (Single p functional L)) = ⊥
+  Silent (Ok (First p L)) = Unit {0}
+  Silent (Ok (OverLong p)) = Unit {0}
+  Silent (Ok (Consecutive p n)) = ⊥
 
-  pub none-stands : {h : Line} {f : Frame} (j : Judged) → Silent j → seen own unit f ≡ j → (p : Position) (functional : Bool) (m : List ℕ) → Stands own unit p functional h f m → ⊥
+  pub none-stands : {h : Line} {f : Frame} (j : Result Judged Refusal) → Silent j → seen own unit f ≡ j → (p : Position) (functional : Bool) (m : List ℕ) → Stands own unit p functional h f m → ⊥
   none-stands j s d p functional m (single e a) = subst Silent (sym d ∙ e) s
   none-stands j s d p functional m (train i x) = subst Silent (sym d ∙ x.last.in_order) s
 
   -- with a consecutive frame of p a train of p, if any
-  pub only-train : {p : Position} {n : ℕ} {h : Line} {f : Frame} → seen own unit f ≡ Consecutive p n → ((m : List ℕ) → Complete own unit p h f m → ⊥)
+  pub only-train : {p : Position} {n : ℕ} {h : Line} {f : Frame} → seen own unit f ≡ Ok (Consecutive p n) → ((m : List ℕ) → Complete own unit p h f m → ⊥)
       → (q : Position) (functional : Bool) (m : List ℕ) → Stands own unit q functional h f m → ⊥
   only-train d x q functional m (single e a) = let z : ◌≡◌ {A = ℕ} 0 1 = cc in omega arith
   only-train {p} {n} {h} {f} d x q functional m (train i y) = let e = y.last.in_order in let s : q ≡ p = cc in x m (subst (λ (o : Position). Complete own unit o h f m) s y)
 
   module _ (p : Position) (h : Line) (f : Frame) (r : Reception) (buffer : List ℕ) (long : length buffer ≡ 1536) where
     -- ---- a frame that ends the train, where it is no first frame
-    rests-ended : View p h r buffer → ((M : ℕ) → seen own unit f ≡ First p M → ⊥) → ((L k t : ℕ) (b : List ℕ) → Ends own unit p L k t b f) → Rests own unit p (h ▹ f)
+    rests-ended : View p h r buffer → ((M : ℕ) → seen own unit f ≡ Ok (First p M) → ⊥) → ((L k t : ℕ) (b : List ℕ) → Ends own unit p L k t b f) → Rests own unit p (h ▹ f)
     unfolding Follows
     rests-ended (resting e x) n y L k t b w = rests-on x n L k t b w
     rests-ended (receiving e v) n y L k t b w = n L ((follows v (ended (y _ _ _ _))).0 L k t b w).1
 
     -- ---- a consecutive frame, where L bytes are to come, k frames are taken, and the last stamp is t
-    module _ (L k t n : ℕ) (is : seen own unit f ≡ Consecutive p n) (w : Underway own unit p h L k t (take (5 + 6 * k) (drop (region_at p) buffer))) where
+    module _ (L k t n : ℕ) (is : seen own unit f ≡ Ok (Consecutive p n)) (w : Underway own unit p h L k t (take (5 + 6 * k) (drop (region_at p) buffer))) where
       abbrev b : List ℕ
       b = take (5 + 6 * k) (drop (region_at p) buffer)
 
@@ -122,16 +123,16 @@ module _ (own : Position) (unit : ℕ) where
       advance-short l =
           let d = is-due in
           subst (Advances p h f buffer) (sym (followed-short L k t p n (length f.bytes) f.stamp is_open (omega arith)))
-          (advances-by (leaving-gives buffer f.bytes (open_with L k t) (outcome.Refused (refusal 9))) (receiving refl (passes w (too_short is l)))
+          (advances-by (leaving-gives buffer f.bytes (open_with L k t) (Err (refusal 9))) (receiving refl (passes w (too_short is l)))
           (nothing refl (only-train is (follows w (passed_over (too_short is l))).1)))
 
-      not_first : (M : ℕ) → seen own unit f ≡ First p M → ⊥
+      not_first : (M : ℕ) → seen own unit f ≡ Ok (First p M) → ⊥
       not_first M e = let z : ◌≡◌ {A = ℕ} 0 1 = cc in omega arith
 
-      ended_so : (why : Refusal) → Ends own unit p L k t b f → Advances p h f buffer (closing (outcome.Refused why))
+      ended_so : (why : Refusal) → Ends own unit p L k t b f → Advances p h f buffer (closing (Err why))
       unfolding handed Follows
       ended_so why e =
-          advances-by (closing-gives buffer f.bytes (outcome.Refused why)) (resting refl (λ M i s c y. not_first M ((follows w (ended e)).0 M i s c y).1))
+          advances-by (closing-gives buffer f.bytes (Err why)) (resting refl (λ M i s c y. not_first M ((follows w (ended e)).0 M i s c y).1))
           (nothing refl (only-train is (follows w (ended e)).1))
 
       advance-ended : Ends own unit p L k t b f → Advances p h f buffer step
@@ -183,16 +184,16 @@ module _ (own : Position) (unit : ℕ) where
       advance-train (ended e) = advance-ended e
 
     -- ---- each physical frame of p
-    advance-consecutive : (n : ℕ) → seen own unit f ≡ Consecutive p n → View p h r buffer → Advances p h f buffer (followed r p n (length f.bytes) f.stamp)
+    advance-consecutive : (n : ℕ) → seen own unit f ≡ Ok (Consecutive p n) → View p h r buffer → Advances p h f buffer (followed r p n (length f.bytes) f.stamp)
     unfolding handed
     advance-consecutive n is (resting e x) =
         subst (Advances p h f buffer) (sym (ap (λ (c : Reception). followed c p n (length f.bytes) f.stamp) e ∙ nothing-open p n (length f.bytes) f.stamp))
-        (advances-by (leaving-gives buffer f.bytes _ _) (resting refl (rests-on x (λ M (d : seen own unit f ≡ First p M). let z : ◌≡◌ {A = ℕ} 0 1 = cc in omega arith)))
+        (advances-by (leaving-gives buffer f.bytes _ _) (resting refl (rests-on x (λ M (d : seen own unit f ≡ Ok (First p M)). let z : ◌≡◌ {A = ℕ} 0 1 = cc in omega arith)))
         (nothing refl (only-train is (λ m (y : Complete own unit p h f m). x _ _ _ _ y.underway))))
     advance-consecutive n is (receiving {L} {k} {t} e w) =
         subst (λ (c : Reception). Advances p h f buffer (followed c p n (length f.bytes) f.stamp)) (sym e) (advance-train L k t n is w (fate own unit p L k t _ f))
 
-    opens : (L : ℕ) → seen own unit f ≡ First p L → take 5 (drop (region_at p) (written buffer (region_at p) (take 5 (drop 3 f.bytes)))) ≡ take 5 (drop 3 f.bytes)
+    opens : (L : ℕ) → seen own unit f ≡ Ok (First p L) → take 5 (drop (region_at p) (written buffer (region_at p) (take 5 (drop 3 f.bytes)))) ≡ take 5 (drop 3 f.bytes)
     opens L is =
         let s = (fair own unit f.identifier f.bytes _ is).1 in
         let c : List ℕ = take 5 (drop 3 f.bytes) in
@@ -203,15 +204,15 @@ module _ (own : Position) (unit : ℕ) where
         ∙ ap (λ (j : ℕ). take (0 + length c) (drop (region_at p) (written buffer j c))) a
         ∙ grows buffer (region_at p) 0 c (omega (arith, region-fits p))
 
-    pub advance-mine : (j : Judged) → seen own unit f ≡ j → Mine p j → View p h r buffer → Advances p h f buffer (step_of r j (length f.bytes) f.stamp)
+    pub advance-mine : (j : Result Judged Refusal) → seen own unit f ≡ j → Mine p j → View p h r buffer → Advances p h f buffer (step_of r j (length f.bytes) f.stamp)
     unfolding handed
     advance-mine _ is (a-single {L}) v =
         advances-by (physical-gives buffer f.bytes r (length f.bytes) f.stamp p L)
-        (resting refl (rests-ended v (λ M (d : seen own unit f ≡ First p M). let z : ◌≡◌ {A = ℕ} 0 1 = cc in omega arith) (λ L k t b. by_single is))) (single-out buffer is)
+        (resting refl (rests-ended v (λ M (d : seen own unit f ≡ Ok (First p M)). let z : ◌≡◌ {A = ℕ} 0 1 = cc in omega arith) (λ L k t b. by_single is))) (single-out buffer is)
     advance-mine _ is (a_first {L}) v =
-        advances-by (first_gives buffer f.bytes r (length f.bytes) f.stamp p L) (receiving refl (begins is refl (opens L is))) (nothing refl (none-stands (First p L) tt is))
+        advances-by (first_gives buffer f.bytes r (length f.bytes) f.stamp p L) (receiving refl (begins is refl (opens L is))) (nothing refl (none-stands (Ok (First p L)) tt is))
     advance-mine _ is an-over-long v =
         advances-by (over-long-gives buffer f.bytes r (length f.bytes) f.stamp p)
-        (resting refl (rests-ended v (λ M (d : seen own unit f ≡ First p M). let z : ◌≡◌ {A = ℕ} 0 1 = cc in omega arith) (λ L k t b. by_over_long is))) (nothing refl (none-stands (OverLong p) tt is))
+        (resting refl (rests-ended v (λ M (d : seen own unit f ≡ Ok (First p M)). let z : ◌≡◌ {A = ℕ} 0 1 = cc in omega arith) (λ L k t b. by_over_long is))) (nothing refl (none-stands (Ok (OverLong p)) tt is))
     advance-mine _ is (a-consecutive {n}) v =
         subst (Advances p h f buffer) (sym (consecutive-step r p n (length f.bytes) f.stamp)) (advance-consecutive n is v)

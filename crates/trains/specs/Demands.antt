@@ -1,8 +1,7 @@
 -- Demand 3, for frames on the wire and the very definitions that the contracts of `receive`, `shown` and `cut` cite: each statement in a sentence and as a type.
 -- That they are not empty is seen in `Examples.unmixed`: two interleaved trains, run by the definitions, both handed out.
-use Rattle.std.specs.Prelude.{◌≡◌, Bool, false, List, [], ◌∷◌, ◌++◌, ◌≢◌, ◌↔◌, ℕ, suc, ◌+◌, ◌-◌, ◌*◌, ◌%◌, ◌^◌, ◌≤◌, ◌<◌, length, take, drop}
+use Rattle.std.specs.Prelude.{◌≡◌, Bool, false, List, [], ◌∷◌, ◌++◌, ◌≢◌, ◌↔◌, ℕ, suc, ◌+◌, ◌-◌, ◌*◌, ◌%◌, ◌^◌, ◌≤◌, ◌<◌, length, take, drop, Ok, Err}
 use Rattle.identifiers.specs.Refusals.{refusal}
-use Rattle.identifiers.specs.declared.answer.Answer.TheVariants.{Done, Refused}
 use Rattle.readings.specs.Positions.{place_of, address_of}
 use Rattle.readings.specs.declared.position.Position.{Position}
 use Rattle.readings.specs.declared.position.Position.TheVariants.{One}
@@ -26,7 +25,7 @@ request_at h p functional m = record { at = size h; from = p; functional = funct
 
 -- The two makers give such nodes.
 abbrev pub MakersAreFresh : Type 0
-MakersAreFresh = (own : Position) (unit : ℕ) → 1 ≤ place_of own → (fresh_of (place_of own) unit ≡ record { node = fresh_node (place_of own) unit; answer = Done }) × (start_of unit ≡ fresh_node (place_of One) unit)
+MakersAreFresh = (own : Position) (unit : ℕ) → 1 ≤ place_of own → (fresh_of (place_of own) unit ≡ record { node = fresh_node (place_of own) unit; answer = (Ok tt) }) × (start_of unit ≡ fresh_node (place_of One) unit)
 
 -- ---- of such a node x, with `Fresh own unit x`
 module _ (own : Position) (unit : ℕ) (x : Held) where
@@ -99,10 +98,10 @@ module _ (own : Position) (unit : ℕ) where
   -- Each kind of frame, by its identifier and its bytes.
   abbrev pub KindsOnTheWire : Type 0
   KindsOnTheWire = (p : Position) (f : Frame)
-      → ((functional : Bool) (L : ℕ) → seen own unit f ≡ Single p functional L ↔ (Addressed own unit f.identifier f.bytes p functional × IsSingle f.bytes L))
-      × ((L : ℕ) → seen own unit f ≡ First p L ↔ (Addressed own unit f.identifier f.bytes p false × IsFirst f.bytes L))
-      × (seen own unit f ≡ OverLong p ↔ (Addressed own unit f.identifier f.bytes p false × IsOverLong f.bytes))
-      × ((n : ℕ) → seen own unit f ≡ Consecutive p n ↔ (Addressed own unit f.identifier f.bytes p false × IsConsecutive f.bytes n))
+      → ((functional : Bool) (L : ℕ) → seen own unit f ≡ Ok (Single p functional L) ↔ (Addressed own unit f.identifier f.bytes p functional × IsSingle f.bytes L))
+      × ((L : ℕ) → seen own unit f ≡ Ok (First p L) ↔ (Addressed own unit f.identifier f.bytes p false × IsFirst f.bytes L))
+      × (seen own unit f ≡ Ok (OverLong p) ↔ (Addressed own unit f.identifier f.bytes p false × IsOverLong f.bytes))
+      × ((n : ℕ) → seen own unit f ≡ Ok (Consecutive p n) ↔ (Addressed own unit f.identifier f.bytes p false × IsConsecutive f.bytes n))
 
   -- No train of p takes a frame that is no physical frame of p: it is named by one of refusals 2 to 10, or functional, or another vehicle's.
   abbrev pub WhatIsElsewhere : Type 0
@@ -130,11 +129,11 @@ module _ (own : Position) (unit : ℕ) where
   -- What the cutter writes is taken apart again, field by field: a single frame, a first frame with L, and consecutive frames with their numbers, each with its bytes and no padding.
   abbrev pub CutTakenApart : Type 0
   CutTakenApart = (p : Position) (m : List ℕ) → place_of p ≢ place_of own → (t : ℕ)
-      → (1 ≤ length m → length m ≤ 6 → Carries own unit (cut_frame own unit p m 0 t) (Single p false (length m)) (unit ∷ length m ∷ m))
-      × (7 ≤ length m → length m ≤ 255 → Carries own unit (cut_frame own unit p m 0 t) (First p (length m)) (unit ∷ 0x10 ∷ length m ∷ take 5 m))
+      → (1 ≤ length m → length m ≤ 6 → Carries own unit (cut_frame own unit p m 0 t) (Ok (Single p false (length m))) (unit ∷ length m ∷ m))
+      × (7 ≤ length m → length m ≤ 255 → Carries own unit (cut_frame own unit p m 0 t) (Ok (First p (length m))) (unit ∷ 0x10 ∷ length m ∷ take 5 m))
       × (7 ≤ length m → length m ≤ 255 → (k : ℕ) → suc k < frame_count (length m)
-      → Carries own unit (cut_frame own unit p m (suc k) t) (Consecutive p (suc k % 16)) (unit ∷ (0x20 + suc k % 16) ∷ take 6 (drop (5 + 6 * k) m)))
+      → Carries own unit (cut_frame own unit p m (suc k) t) (Ok (Consecutive p (suc k % 16))) (unit ∷ (0x20 + suc k % 16) ∷ take 6 (drop (5 + 6 * k) m)))
 
 -- The cutter refuses, with 16, just where document 01 says, and then gives no frame.
 abbrev pub CutterRefuses : Type 0
-CutterRefuses = (m : List ℕ) (k from to unit : ℕ) → ((cut_of m k from to unit).answer ≡ Refused (refusal 16) ↔ Uncut m k from to) × (Uncut m k from to → cut_of m k from to unit ≡ no_frame)
+CutterRefuses = (m : List ℕ) (k from to unit : ℕ) → (cut_of m k from to unit ≡ Err (refusal 16) ↔ Uncut m k from to) × (Uncut m k from to → cut_of m k from to unit ≡ no_frame)

@@ -1,7 +1,8 @@
 -- A node that is offered a sequence of frames, one after the other, by the very definitions of `receive`'s contract; and what it hands out.
-use Rattle.std.specs.Prelude.{false, List, [], ◌∷◌, ◌++◌, ℕ}
+use Rattle.std.specs.Prelude.{false, List, [], ◌∷◌, ◌++◌, ℕ, Result, Ok, Err}
+use Rattle.identifiers.specs.declared.refusal.Refusal.{Refusal}
 use Rattle.receiver.specs.declared.outcome.Outcome.{Outcome}
-use Rattle.receiver.specs.declared.outcome.Outcome.TheVariants.{Refused, OverLong, Opened, Taken, Single, Train}
+use Rattle.receiver.specs.declared.outcome.Outcome.TheVariants.{OverLong, Opened, Taken, Single, Train}
 use Rattle.receiver.specs.Frames.{Frame}
 use Rattle.receiver.specs.Receiving.{Received, received_of, buffer_after}
 use Rattle.receiver.specs.Shown.{shown_of}
@@ -26,13 +27,13 @@ offered x start = x
 offered x (h ▹ f) = next (offered x h) f
 
 -- the request that an outcome hands out, with the bytes that are shown at that moment
-unfoldable pub handed : ℕ → Outcome → List ℕ → List ℕ → List Request
-handed at (Refused why) bytes buffer = []
-handed at (OverLong from) bytes buffer = []
-handed at (Opened from) bytes buffer = []
-handed at (Taken from) bytes buffer = []
-handed at (Single from functional L) bytes buffer = record { at = at; from = from; functional = functional; bytes = shown_of bytes buffer (Single from functional L) } ∷ []
-handed at (Train from L) bytes buffer = record { at = at; from = from; functional = false; bytes = shown_of bytes buffer (Train from L) } ∷ []
+unfoldable pub handed : ℕ → Result Outcome Refusal → List ℕ → List ℕ → List Request
+handed at (Err why) bytes buffer = []
+handed at (Ok (OverLong from)) bytes buffer = []
+handed at (Ok (Opened from)) bytes buffer = []
+handed at (Ok (Taken from)) bytes buffer = []
+handed at (Ok (Single from functional L)) bytes buffer = record { at = at; from = from; functional = functional; bytes = shown_of bytes buffer (Ok (Single from functional L)) } ∷ []
+handed at (Ok (Train from L)) bytes buffer = record { at = at; from = from; functional = false; bytes = shown_of bytes buffer (Ok (Train from L)) } ∷ []
 
 -- at the frame f behind h
 unfoldable pub handed_at : Held → Line → Frame → List Request

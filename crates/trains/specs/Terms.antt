@@ -1,13 +1,12 @@
 -- The words in which the theorems are said, besides those of specs/Sequences: where a train begins, what a frame does to it, what is sent.
-use Rattle.std.specs.Prelude.{◌≡◌, Bool, true, false, List, [], ◌∷◌, ◌++◌, ◌≢◌, ℕ, zero, suc, ◌+◌, ◌%◌, ◌^◌, ◌≤◌, ◌<◌, eqb, length, take, drop}
+use Rattle.std.specs.Prelude.{◌≡◌, Bool, true, false, List, [], ◌∷◌, ◌++◌, ◌≢◌, ℕ, zero, suc, ◌+◌, ◌%◌, ◌^◌, ◌≤◌, ◌<◌, eqb, length, take, drop, Result, Ok, Err, Some}
 use Rattle.identifiers.specs.Choice.{pick}
 use Rattle.identifiers.specs.Refusals.{number_of}
 use Rattle.identifiers.specs.declared.refusal.Refusal.{Refusal}
 use Rattle.readings.specs.Positions.{place_of, address_of}
 use Rattle.readings.specs.declared.position.Position.{Position}
-use Rattle.readings.specs.declared.position.Vehicle.TheVariants.{At}
 use Rattle.receiver.specs.declared.frame.Judged.{Judged}
-use Rattle.receiver.specs.declared.frame.Judged.TheVariants.{Refused, Single, First, OverLong, Consecutive}
+use Rattle.receiver.specs.declared.frame.Judged.TheVariants.{Single, First, OverLong, Consecutive}
 use Rattle.receiver.specs.Frames.{Frame}
 use Rattle.receiver.specs.Steps.{gap_of}
 use Rattle.receiver.specs.Cuts.{frame_count, cut_of, on_wire}
@@ -59,17 +58,17 @@ module _ (own : Position) (unit : ℕ) where
   -- "A physical single frame, a first frame, an over-long one, a wrong number or a late frame ends the open reception, if checks 1 to 9 pass":
   -- the train of which k are taken, the last at t, and b is gathered of L bytes
   pub data Ends (p : Position) (L k t : ℕ) (b : List ℕ) (f : Frame) : Type 0 where
-    by_single : {M : ℕ} → seen own unit f ≡ Single p false M → Ends p L k t b f
-    by_first : {M : ℕ} → seen own unit f ≡ First p M → Ends p L k t b f
-    by_over_long : seen own unit f ≡ OverLong p → Ends p L k t b f
-    by_number : {n : ℕ} → seen own unit f ≡ Consecutive p n → 2 + due L b ≤ length f.bytes → n ≢ suc k % 16 → Ends p L k t b f
-    by_lateness : seen own unit f ≡ Consecutive p (suc k % 16) → 2 + due L b ≤ length f.bytes → 150 < gap_of f.stamp t → Ends p L k t b f
+    by_single : {M : ℕ} → seen own unit f ≡ Ok (Single p false M) → Ends p L k t b f
+    by_first : {M : ℕ} → seen own unit f ≡ Ok (First p M) → Ends p L k t b f
+    by_over_long : seen own unit f ≡ Ok (OverLong p) → Ends p L k t b f
+    by_number : {n : ℕ} → seen own unit f ≡ Ok (Consecutive p n) → 2 + due L b ≤ length f.bytes → n ≢ suc k % 16 → Ends p L k t b f
+    by_lateness : seen own unit f ≡ Ok (Consecutive p (suc k % 16)) → 2 + due L b ≤ length f.bytes → 150 < gap_of f.stamp t → Ends p L k t b f
 
   -- the frames that no train of p takes: "those that refusals 1 to 10 name" by themselves, functional frames, and those of other vehicles
   pub data Aside (p : Position) (f : Frame) : Type 0 where
-    by_refusal : {why : Refusal} → seen own unit f ≡ Refused why → 2 ≤ number_of why → number_of why ≤ 10 → Aside p f
-    by_function : {q : Position} {L : ℕ} → seen own unit f ≡ Single q true L → Aside p f
-    by_vehicle : {q : Position} → physical_of (seen own unit f) ≡ At q → q ≢ p → Aside p f
+    by_refusal : {why : Refusal} → seen own unit f ≡ Err why → 2 ≤ number_of why → number_of why ≤ 10 → Aside p f
+    by_function : {q : Position} {L : ℕ} → seen own unit f ≡ Ok (Single q true L) → Aside p f
+    by_vehicle : {q : Position} → physical_of (seen own unit f) ≡ Some q → q ≢ p → Aside p f
 
   -- what a frame does to that train: one of four
   pub data Fate (p : Position) (L k t : ℕ) (b : List ℕ) (f : Frame) : Type 0 where
@@ -84,11 +83,11 @@ module _ (own : Position) (unit : ℕ) where
   Follows p h L k t b f (taken {c} n l) = Underway own unit p (h ▹ f) L (suc k) f.stamp (b ++ c) × ((m : List ℕ) → Complete own unit p h f m → ⊥)
   Follows p h L k t b f (completes {c} n l) = Complete own unit p h f (b ++ c) × Rests p (h ▹ f)
   Follows p h L k t b f (ended e) =
-      ((M i s : ℕ) (c : List ℕ) (y : Underway own unit p (h ▹ f) M i s c) → (origin y ≡ h) × (seen own unit f ≡ First p M)) × ((m : List ℕ) → Complete own unit p h f m → ⊥)
+      ((M i s : ℕ) (c : List ℕ) (y : Underway own unit p (h ▹ f) M i s c) → (origin y ≡ h) × (seen own unit f ≡ Ok (First p M))) × ((m : List ℕ) → Complete own unit p h f m → ⊥)
 
   -- "until L bytes": what a complete train has, by its first frame, its consecutive frames and its bytes
   pub record Whole (p : Position) (h : Line) (f : Frame) (m : List ℕ) (a : Complete own unit p h f m) : Type 0 where
-    pub first : seen own unit (first_frame a.underway) ≡ First p a.L
+    pub first : seen own unit (first_frame a.underway) ≡ Ok (First p a.L)
     pub least : 7 ≤ a.L
     pub most : a.L ≤ 255
     pub exact : length m ≡ a.L
@@ -121,6 +120,6 @@ abbrev pub InTime : (ℕ → ℕ) → ℕ → Type 0
 InTime stamps n = (k : ℕ) → suc k < n → gap_of (stamps (suc k)) (stamps k) ≤ 150
 
 -- ---- what is cut: a frame that the receiver takes for this, with these data bytes
-pub record Carries (own : Position) (unit : ℕ) (f : Frame) (j : Judged) (bytes : List ℕ) : Type 0 where
+pub record Carries (own : Position) (unit : ℕ) (f : Frame) (j : Result Judged Refusal) (bytes : List ℕ) : Type 0 where
   pub kind : seen own unit f ≡ j
   pub data_bytes : f.bytes ≡ bytes

@@ -1,31 +1,26 @@
--- `cut` meets its contract: 16 for the positions and the frame, and else the frame.
-use Rattle.std.proofs.Common.{eqb, sym, ◌∙◌, leb-false}
-use Rattle.identifiers.proofs.LawsChoice.{taken, passed, or_is, either-false}
-use Rattle.receiver.specs.Cuts.{cut_of}
-use Rattle.receiver.proofs.LawsPieces.{none-else, between_first, between-second, between-both}
+-- `cut` meets its contract: by whether there is a way, and whether the message has so many frames.
+use Rattle.std.proofs.Common.{sym, ◌∙◌, refl, le-leb}
+use borrow.Author.Tests.{lt-leb}
+use Rattle.std.proofs.lemmas.Result.{err_from_is_err_and}
+use Rattle.identifiers.proofs.LawsChoice.{taken, passed, right-holds, right-decides}
+use Rattle.receiver.specs.Cuts.{cut_of, no_frame}
+use Rattle.receiver.proofs.LawsPieces.{way-so, way_none}
 use Rattle.receiver.proofs.cutter.cut.Goals as goal
 
-pub returns-in_default : goal.returns-in_default
+pub returns-in_err-way : goal.returns-in_err-way
 unfolding cut_of
-returns-in_default c =
-    c.no_frame.ensures ∙ sym (none-else _ _ (between_first _ _ _ (sym c.at.ensures ∙ c.in_default.is)))
+returns-in_err-way c =
+    let p = err_from_is_err_and c.from_residual.result c.from_residual.ensures.1 in
+    let n = way_none c.args.from c.args.to c.args.unit (sym c.between.ensures ∙ c.in_err-way.was) in
+    rw (p.1, p.2) (n.0 ∙ sym (n.1 _ _))
 
-pub returns-in_default-at : goal.returns-in_default-at
-unfolding cut_of
-returns-in_default-at c =
-    c.no_frame-in_default-at.ensures ∙ sym (none-else _ _ (between-second _ _ _ (sym c.at-2.ensures ∙ c.in_default-at.is)))
-
-pub returns-then-from-to : goal.returns-then-from-to
-unfolding cut_of
-returns-then-from-to c = taken _ (sym (or_is _ _) ∙ rw c.frame_count.ensures at c.if-from-to.true) c.no_frame-then-from-to.ensures
-
-pub piece-requires : goal.piece-requires
-piece-requires c =
-    let none = rw c.frame_count.ensures at c.if-from-to.false in
-    leb-false _ _ (either-false (eqb c.args.from c.args.to) _ (sym (or_is _ _) ∙ none)).1
+pub returns-then-frame_count-number : goal.returns-then-frame_count-number
+unfolding cut_of no_frame
+returns-then-frame_count-number c = taken _ (sym (right-holds _ (le-leb _ _ (rw c.frame_count.ensures at c.if-frame_count-number.true)))) refl
 
 pub returns : goal.returns
 unfolding cut_of
 returns c =
-    passed _ (sym (or_is _ _) ∙ rw c.frame_count.ensures at c.if-from-to.false)
-    (c.piece.ensures ∙ sym (between-both _ _ _ _ _ (sym c.at.ensures ∙ c.in-At.is) (sym c.at-2.ensures ∙ c.in-At-at.is)))
+    let s = way-so c.args.from c.args.to c.args.unit (sym c.between.ensures ∙ c.in_ok-way.was) in
+    let more = rw c.frame_count.ensures at c.if-frame_count-number.false in
+    passed _ (sym (right-decides s.0 (sym (lt-leb _ _ more)))) (c.piece.ensures ∙ rw s.1 (sym (s.2 _)))

@@ -1,39 +1,35 @@
--- `is_sound` meets its contract: own position and unit, then the first reception that breaks its rules decides.
-use Rattle.std.proofs.Common.{◌≡◌, sym, ◌∙◌, arith}
-use Rattle.identifiers.proofs.LawsBelow.{all_none, all_more}
-use Rattle.receiver.specs.Lent.{node_in}
-use Rattle.receiver.proofs.LawsLentRules.{own-under, own-over, unit_over, reception-breaks, all-kept}
+-- `is_sound` meets its contract: the tests are those of the definition, in their order.
+use Rattle.std.proofs.Common.{◌≡◌, ◌&&◌, Bool, true, false, leb, sym, ◌∙◌}
+use Rattle.std.specs.List.{list_all, range_with_len}
+use Rattle.receiver.specs.Lent.{node_in, keeps}
+use Rattle.receiver.proofs.LawsLentRules.{as-asked}
 use Rattle.receiver.proofs.node.is_sound.Goals as goal
+use Rattle.receiver.proofs.node.is_sound.Goals.{then-own, else-own}
 
-pub returns-then-node-eq0 : goal.returns-then-node-eq0
+-- the last test decides where the tests before it hold, and nothing is asked where one fails
+both-hold : (t x : Bool) {v : Bool} → v ≡ t → v ≡ true → x ≡ (t && x)
+both-hold t x e h = rw (sym e, h)
+
+one-fails : (t x : Bool) {v : Bool} → v ≡ t → v ≡ false → v ≡ (t && x)
+one-fails t x e h = rw (sym e, h)
+
+pub returns-then-node-le-LARGEST_UNIT : goal.returns-then-node-le-LARGEST_UNIT
 unfolding node_in
-returns-then-node-eq0 c = own-under _ (omega (arith, c.if-node-eq0.true))
+returns-then-node-le-LARGEST_UNIT c =
+    let n = node_in c.args.node.now in
+    let tests : Bool = (leb 1 n.own && leb n.own 5) && leb n.unit 255 in
+    let asked : c.if-own.value ≡ tests =
+    elim c.if-own.branch [ then-own w ↦ rw (w.value-is, w.if-own.true) | else-own w ↦ rw (w.value-is, w.if-own.false) ] in
+    c.receptions_are_sound.ensures
+    ∙ both-hold tests _ asked c.if-node-le-LARGEST_UNIT.true
+    ∙ as-asked n
 
-pub returns-then-node-gt5 : goal.returns-then-node-gt5
+pub returns-else-node-le-LARGEST_UNIT : goal.returns-else-node-le-LARGEST_UNIT
 unfolding node_in
-returns-then-node-gt5 c = own-over _ c.if-node-gt5.true
-
-pub returns-then-node-gt-LARGEST_UNIT : goal.returns-then-node-gt-LARGEST_UNIT
-unfolding node_in
-returns-then-node-gt-LARGEST_UNIT c = unit_over _ (omega arith)
-
-pub loop-p-init : goal.loop-p-init
-loop-p-init c = (omega arith, all_none _)
-
-pub returns-then-not-is_sound : goal.returns-then-not-is_sound
-returns-then-not-is_sound c =
-    reception-breaks _ c.loop-p.p c.loop-p-test.true (rw c.reception_of.ensures at (sym c.is_sound.ensures) ∙ c.if-not-is_sound.true)
-
-pub loop-p-preserved : goal.loop-p-preserved
-loop-p-preserved c =
-    (omega (arith, c.loop-p-test.true), all_more _ _ c.loop-p.invariant.1 (rw c.reception_of.ensures at (sym c.is_sound.ensures) ∙ c.if-not-is_sound.false))
-
-pub returns : goal.returns
-unfolding node_in
-returns c =
-    let all : c.loop-p.p ≡ 6 = omega (arith, c.loop-p-test.false, c.loop-p.invariant.0) in
-    let some = c.if-node-eq0.false in
-    all-kept _ (omega (arith, some)) c.if-node-gt5.false c.if-node-gt-LARGEST_UNIT.false (rw (← all) c.loop-p.invariant.1)
-
-pub reception_of-requires : goal.reception_of-requires
-reception_of-requires c = c.loop-p-test.true
+returns-else-node-le-LARGEST_UNIT c =
+    let n = node_in c.args.node.now in
+    let tests : Bool = (leb 1 n.own && leb n.own 5) && leb n.unit 255 in
+    let asked : c.if-own.value ≡ tests =
+    elim c.if-own.branch [ then-own w ↦ rw (w.value-is, w.if-own.true) | else-own w ↦ rw (w.value-is, w.if-own.false) ] in
+    one-fails tests (list_all (keeps n) (range_with_len 0 6)) asked c.if-node-le-LARGEST_UNIT.false
+    ∙ as-asked n

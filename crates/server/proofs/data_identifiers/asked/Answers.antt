@@ -1,8 +1,7 @@
 -- `asked` meets its contract: two bytes, high first.
-use Rattle.std.proofs.Common.{refl}
 use Rattle.server.specs.DataIdentifiers.{asked_at}
 use Rattle.server.proofs.data_identifiers.asked.Goals as goal
 
 pub returns : goal.returns
 unfolding asked_at
-returns c = refl
+returns c = c.from_be_bytes.ensures

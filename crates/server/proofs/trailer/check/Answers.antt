@@ -4,10 +4,10 @@ use Rattle.identifiers.proofs.LawsChoice.{taken, passed}
 use Rattle.server.specs.Trailer.{checked_as}
 use Rattle.server.proofs.trailer.check.Goals as goal
 
-pub returns-then-sound_record : goal.returns-then-sound_record
+pub returns-then-is_sound : goal.returns-then-is_sound
 unfolding checked_as
-returns-then-sound_record c = taken _ (sym (c.sound_record.ensures _) ∙ c.if-sound_record.true) refl
+returns-then-is_sound c = taken _ (sym c.is_sound.ensures ∙ c.if-is_sound.true) refl
 
 pub returns : goal.returns
 unfolding checked_as
-returns c = passed _ (sym (c.sound_record.ensures _) ∙ c.if-sound_record.false) refl
+returns c = passed _ (sym c.is_sound.ensures ∙ c.if-is_sound.false) refl
