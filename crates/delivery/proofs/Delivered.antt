@@ -7,11 +7,11 @@ use Prim.Native.Nat.{ℕ, suc, ◌+◌, ◌-◌, ◌^◌, ◌≤◌, ◌<◌}
 use native.Mathlib.Decide.{dec_lt}
 use native.Mathlib.Omega.{arith}
 use lib.ListN.{length}
+use Rattle.std.specs.Prelude.{Some, None, Ok, Err}
 use Rattle.identifiers.specs.Identifiers.{formula}
 use Rattle.identifiers.specs.declared.identifier.Identifier.{Identifier}
 use Rattle.identifiers.proofs.LawsInverse.{Widths, formula-range, formula-fields}
 use Rattle.readings.specs.declared.position.Position.{Position}
-use Rattle.readings.specs.declared.routing.Routed.TheVariants.{Passed, Neither, Refused}
 use Rattle.readings.specs.declared.routing.RoutedTold.{RoutedTold}
 use Rattle.readings.specs.Positions.{place_of, address_of}
 use Rattle.readings.specs.Routes.{Keeps}
@@ -103,9 +103,9 @@ alike e = (ap (λ (t : RoutedTold). t.kept) e, ap (λ (t : RoutedTold). t.onward
 
 pub told-alike : ToldAlike
 unfolding kept_by onward_by
-told-alike (Passed p) = alike (told-passed p)
-told-alike Neither = alike told-neither
-told-alike (Refused why) = alike (told-refused why)
+told-alike (Ok (Some p)) = alike (told-passed p)
+told-alike (Ok None) = alike told-neither
+told-alike (Err why) = alike (told-refused why)
 
 -- Every vehicle of a train can send such frames: any six fields within their widths, with its own address for SA.
 pub sendable : (own : ℕ → ℕ) (n : ℕ) (q : Position) (i : Identifier) (count : ℕ) → n ≤ 5 → ((place : ℕ) → 1 ≤ place → place ≤ n → own place ≡ place) → place_of q ≤ n → count ≤ 8 → Widths i → i.source ≡ address_of q → Sent own n (formula i) count q

@@ -7,18 +7,15 @@ use native.Mathlib.Nat.{lt_of_lt_of_le}
 use native.Mathlib.Omega.{arith}
 use borrow.Author.Tests.{lt-ltb, le-ltb, ltb-true}
 use lib.Dec.{eqb}
+use Rattle.std.specs.Prelude.{Option, Some, None, Result, Ok}
 use Rattle.identifiers.specs.Choice.{both}
 use Rattle.identifiers.specs.Identifiers.{fields_of, frame_passing, target_of}
 use Rattle.identifiers.proofs.LawsIdentifiers.{passing-fields}
 use Rattle.readings.specs.declared.position.Position.{Position}
 use Rattle.readings.specs.declared.position.Position.TheVariants.{Zero}
-use Rattle.readings.specs.declared.position.Vehicle.{Vehicle}
-use Rattle.readings.specs.declared.position.Vehicle.TheVariants.{At, NoVehicle}
 use Rattle.readings.specs.declared.routing.Passage.{Passage}
 use Rattle.readings.specs.declared.routing.Side.{Side}
 use Rattle.readings.specs.declared.routing.Side.TheVariants.{Successor}
-use Rattle.readings.specs.declared.routing.Routed.{Routed}
-use Rattle.readings.specs.declared.routing.Routed.TheVariants.{Passed}
 use Rattle.readings.specs.Positions.{place_of, address_of, position_of, position_at}
 use Rattle.readings.specs.Routes.{named, onward_of, route_of, ComesFrom, Keeps}
 use Rattle.readings.proofs.LawsPositions.{address-back, place-back, place-only, position-none}
@@ -26,14 +23,15 @@ use Rattle.readings.proofs.LawsRoutes.{from-right, comes-exactly, kept_exactly, 
 use Rattle.readings.proofs.LawsAnswers.{passage-is, own-found}
 use Rattle.delivery.specs.Hands.{kept_by_towing, has_successor, route_at}
 use Rattle.delivery.specs.Delivery.{Sent}
+use Rattle.identifiers.specs.declared.refusal.Refusal.{Refusal}
 
 -- ---- who keeps a frame, by its position and by its place
 abbrev pub keeps : ℕ → Position → Bool
 keeps number p = both (eqb (fields_of number).reserved 0) (named (address_of p) (target_of (fields_of number)))
 
-kept_as : ℕ → Vehicle → Bool
-kept_as number (At p) = keeps number p
-kept_as number NoVehicle = false
+kept_as : ℕ → Option Position → Bool
+kept_as number (Some p) = keeps number p
+kept_as number None = false
 
 pub keeps_at : ℕ → ℕ → Bool
 keeps_at number place = kept_as number (position_at place)
@@ -52,9 +50,9 @@ keeps-exactly number p =
 pub at_place : (place : ℕ) → place ≤ 5 → (p : Position) × (place_of p ≡ place)
 at_place place most = go (position_at place) refl
   where
-    go : (v : Vehicle) → position_at place ≡ v → (p : Position) × (place_of p ≡ place)
-    go (At p) e = (p, place-only place p e)
-    go NoVehicle e = absurd (omega (arith, position-none place e))
+    go : (v : Option Position) → position_at place ≡ v → (p : Position) × (place_of p ≡ place)
+    go (Some p) e = (p, place-only place p e)
+    go None e = absurd (omega (arith, position-none place e))
 
 -- ---- who has a vehicle behind it: all before the last, and no other
 pub before-the-last : (n place : ℕ) → has_successor n place ≡ true → place < n
@@ -71,8 +69,8 @@ has-none n place l = le-ltb place n l
 
 -- ---- a frame that the vehicle q sends
 module _ (own : ℕ → ℕ) (n number count : ℕ) (q : Position) (s : Sent own n number count q) where
-  abbrev passes : ℕ → Side → Routed
-  passes place side = Passed (record { kept = keeps_at number place; onward = onward_of side (has_successor n place) })
+  abbrev passes : ℕ → Side → Result (Option Passage) Refusal
+  passes place side = Ok (Some (record { kept = keeps_at number place; onward = onward_of side (has_successor n place) }))
 
   trailer-passes : (p : Position) (side : Side) → 1 ≤ place_of p → ComesFrom side (place_of p) (has_successor n (place_of p)) (place_of q)
       → route_of side (place_of p) (has_successor n (place_of p)) number count ≡ passes (place_of p) side
@@ -80,9 +78,9 @@ module _ (own : ℕ → ℕ) (n number count : ℕ) (q : Position) (s : Sent own
       let behind = has_successor n (place_of p) in
       let found = own-found p behind some (λ (e : behind ≡ true). omega (arith, s.trailers, before-the-last n (place_of p) e)) in
       route-read side (place_of p) behind number count p (fields_of number) found (passing-fields number count s.range s.data_bytes)
-      ∙ from-right side p behind (fields_of number) q (ap position_of s.source ∙ address-back q) ((comes-exactly side _ _ _).1 from)
-      ∙ ap Passed (passage-is side p behind (fields_of number))
-      ∙ ap (λ (k : Bool). Passed (record { kept = k; onward = onward_of side behind })) (sym (keeps-at number p))
+      ∙ ap Ok (from-right side p behind (fields_of number) q (ap position_of s.source ∙ address-back q) ((comes-exactly side _ _ _).1 from))
+      ∙ ap (λ (y : Passage). Ok (Some y)) (passage-is side p behind (fields_of number))
+      ∙ ap (λ (k : Bool). Ok (Some (record { kept = k; onward = onward_of side behind }))) (sym (keeps-at number p))
 
   pub trailer-at : (place : ℕ) (side : Side) → 1 ≤ place → place ≤ n → ComesFrom side place (has_successor n place) (place_of q) → route_at own n number count place side ≡ passes place side
   trailer-at place side some most from =

@@ -4,58 +4,57 @@ use mathlib.Core.Bool.{Bool, true, false}
 use mathlib.Core.List.{List, []}
 use mathlib.Core.Logic.{◌⊎◌, inl, inr}
 use Prim.Native.Nat.{ℕ, suc}
+use Rattle.std.specs.Prelude.{Option, Some, None, Result, Ok, Err}
 use Rattle.identifiers.specs.Choice.{pick}
 use Rattle.identifiers.specs.Identifiers.{frame_passing}
 use Rattle.identifiers.specs.declared.identifier.Identifier.{Identifier}
-use Rattle.identifiers.specs.declared.identifier.IdentifierRead.{IdentifierRead}
-use Rattle.identifiers.specs.declared.identifier.IdentifierRead.TheVariants as read
 use Rattle.readings.specs.declared.position.Position.{Position}
-use Rattle.readings.specs.declared.position.Vehicle.{Vehicle}
-use Rattle.readings.specs.declared.position.Vehicle.TheVariants.{At, NoVehicle}
 use Rattle.readings.specs.declared.routing.Passage.{Passage}
 use Rattle.readings.specs.declared.routing.Side.{Side}
 use Rattle.readings.specs.declared.routing.Side.TheVariants.{Predecessor, Successor}
-use Rattle.readings.specs.declared.routing.Onward.{Onward}
-use Rattle.readings.specs.declared.routing.Onward.TheVariants.{Nowhere}
 use Rattle.readings.specs.Positions.{place_of, position_of}
 use Rattle.readings.specs.Routes.{own_position, comes_from, onward_of, routed_by, route_of}
 use Rattle.readings.proofs.LawsRoutes.{from-none, from_wrong, from-right, route-1, route-refused, route-read, sent-on}
 use Rattle.readings.proofs.LawsAnswers.{passage-is}
 use Rattle.delivery.specs.Hands.{Arrival, onward_by, sent_on, has_successor, route_at, handed}
+use Rattle.identifiers.specs.declared.refusal.Refusal.{Refusal}
 
 -- ---- any route
-abbrev GoesOn : Side → Bool → Onward → Type 0
-GoesOn side behind onward = (onward ≡ Nowhere) ⊎ (onward ≡ onward_of side behind)
+abbrev GoesOn : Side → Bool → Option Side → Type 0
+GoesOn side behind onward = (onward ≡ None) ⊎ (onward ≡ onward_of side behind)
+
+abbrev passed : Option Passage → Option Side
+passed r = onward_by (Ok r)
 
 module _ (side : Side) (behind : Bool) where
-  from-vehicle : (p x : Position) (i : Identifier) → position_of i.source ≡ At x → (t : Bool) → comes_from side (place_of p) behind (place_of x) ≡ t → GoesOn side behind (onward_by (routed_by side p behind i))
+  from-vehicle : (p x : Position) (i : Identifier) → position_of i.source ≡ Some x → (t : Bool) → comes_from side (place_of p) behind (place_of x) ≡ t → GoesOn side behind (onward_by (Ok (routed_by side p behind i)))
   unfolding onward_by
-  from-vehicle p x i e true t = inr (ap onward_by (from-right side p behind i x e t) ∙ ap (λ (y : Passage). y.onward) (passage-is side p behind i))
-  from-vehicle p x i e false t = inl (ap onward_by (from_wrong side p behind i x e t))
+  from-vehicle p x i e true t = inr (ap passed (from-right side p behind i x e t) ∙ ap (λ (y : Passage). y.onward) (passage-is side p behind i))
+  from-vehicle p x i e false t = inl (ap passed (from_wrong side p behind i x e t))
 
-  by_source : (p : Position) (i : Identifier) (v : Vehicle) → position_of i.source ≡ v → GoesOn side behind (onward_by (routed_by side p behind i))
+  by_source : (p : Position) (i : Identifier) (v : Option Position) → position_of i.source ≡ v → GoesOn side behind (onward_by (Ok (routed_by side p behind i)))
   unfolding onward_by
-  by_source p i NoVehicle e = inl (ap onward_by (from-none side p behind i e))
-  by_source p i (At x) e = from-vehicle p x i e (comes_from side (place_of p) behind (place_of x)) refl
+  by_source p i None e = inl (ap passed (from-none side p behind i e))
+  by_source p i (Some x) e = from-vehicle p x i e (comes_from side (place_of p) behind (place_of x)) refl
 
   goes_on : (place number count : ℕ) → GoesOn side behind (onward_by (route_of side place behind number count))
   unfolding onward_by
   goes_on place number count = go (own_position place behind) (frame_passing number count) refl refl
     where
-      go : (v : Vehicle) (answer : IdentifierRead) → own_position place behind ≡ v → frame_passing number count ≡ answer → GoesOn side behind (onward_by (route_of side place behind number count))
-      go NoVehicle answer own e = inl (ap onward_by (route-1 side place behind number count own))
-      go (At p) (read.Refused why) own e = inl (ap onward_by (route-refused side place behind number count p why own e))
-      go (At p) (read.Fields i) own e = rw (route-read side place behind number count p i own e) (by_source p i (position_of i.source) refl)
+      go : (v : Option Position) (answer : Result Identifier Refusal) → own_position place behind ≡ v → frame_passing number count ≡ answer → GoesOn side behind (onward_by (route_of side place behind number count))
+      go None answer own e = inl (ap onward_by (route-1 side place behind number count own))
+      go (Some p) (Err why) own e = inl (ap onward_by (route-refused side place behind number count p why own e))
+      go (Some p) (Ok i) own e = rw (route-read side place behind number count p i own e) (by_source p i (position_of i.source) refl)
 
 -- ---- on to the other side: to the predecessor, and to the successor where there is one
 pub on-ahead : (successor : Bool) (ahead behind : List Arrival) → sent_on (onward_of Successor successor) ahead behind ≡ ahead
 unfolding sent_on
-on-ahead successor ahead behind = ap (λ (o : Onward). sent_on o ahead behind) (sent-on.1.1 successor)
+on-ahead successor ahead behind = ap (λ (o : Option Side). sent_on o ahead behind) (sent-on.1.1 successor)
 
 pub on-behind : (successor : Bool) (ahead behind : List Arrival) → sent_on (onward_of Predecessor successor) ahead behind ≡ pick successor behind []
 unfolding sent_on pick
-on-behind true ahead behind = ap (λ (o : Onward). sent_on o ahead behind) sent-on.0
-on-behind false ahead behind = ap (λ (o : Onward). sent_on o ahead behind) sent-on.1.0
+on-behind true ahead behind = ap (λ (o : Option Side). sent_on o ahead behind) sent-on.0
+on-behind false ahead behind = ap (λ (o : Option Side). sent_on o ahead behind) sent-on.1.0
 
 -- what holds of nothing, and of two lists where there is one, holds where there may be one
 pub picked : (R : List Arrival → List Arrival → Type 0) → R [] [] → (t : Bool) (a b : List Arrival) → (t ≡ true → R a b) → R (pick t a []) (pick t b [])
@@ -78,12 +77,12 @@ module _ (own : ℕ → ℕ) (n number count : ℕ) where
 
 -- for two numbers of hands: what holds of nothing, and of that neighbour's hands, holds of it
 module _ (own : ℕ → ℕ) (n number count : ℕ) (R : List Arrival → List Arrival → Type 0) (none : R [] []) where
-  ahead : (o : Onward) (t : Bool) (a b c d : List Arrival) → GoesOn Successor t o → R a c → R (sent_on o a b) (sent_on o c d)
+  ahead : (o : Option Side) (t : Bool) (a b c d : List Arrival) → GoesOn Successor t o → R a c → R (sent_on o a b) (sent_on o c d)
   unfolding sent_on
   ahead o t a b c d (inl e) some = rw e none
   ahead o t a b c d (inr e) some = rw (e, on-ahead t a b, on-ahead t c d) some
 
-  behind : (o : Onward) (t : Bool) (a b c d : List Arrival) → GoesOn Predecessor t o → (t ≡ true → R b d) → R (sent_on o a b) (sent_on o c d)
+  behind : (o : Option Side) (t : Bool) (a b c d : List Arrival) → GoesOn Predecessor t o → (t ≡ true → R b d) → R (sent_on o a b) (sent_on o c d)
   unfolding sent_on
   behind o t a b c d (inl e) some = rw e none
   behind o t a b c d (inr e) some = rw (e, on-behind t a b, on-behind t c d) (picked R none t b d some)

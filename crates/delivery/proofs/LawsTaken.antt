@@ -2,23 +2,21 @@
 use mathlib.Core.Path.{◌≡◌, refl, sym, ap, ◌∙◌}
 use Prim.Native.Nat.{ℕ, zero, suc, ◌≤◌, ◌<◌}
 use native.Mathlib.Omega.{arith}
+use Rattle.std.specs.Prelude.{Option, Some, None, Ok, Err}
 use Rattle.identifiers.specs.Refusals.{refusal}
 use Rattle.readings.specs.declared.position.Position.{Position}
-use Rattle.readings.specs.declared.position.Vehicle.{Vehicle}
-use Rattle.readings.specs.declared.position.Vehicle.TheVariants.{At, NoVehicle}
-use Rattle.readings.specs.declared.position.AddressTaken.TheVariants.{Own, Refused}
 use Rattle.readings.specs.Positions.{place_of, address_of, successor_of, taken_after}
 use Rattle.readings.proofs.LawsPositions.{address-back, successor-place, after_last, after_next}
 use Rattle.delivery.specs.Delivery.{Taken}
 
 -- the position that is taken is the next one
-taken_next : (p q : Position) → taken_after (address_of p) ≡ Own q → place_of q ≡ suc (place_of p)
+taken_next : (p q : Position) → taken_after (address_of p) ≡ Ok q → place_of q ≡ suc (place_of p)
 taken_next p q e = go (successor_of p) refl
   where
-    go : (v : Vehicle) → successor_of p ≡ v → place_of q ≡ suc (place_of p)
-    go NoVehicle none = let d : Refused (refusal 15) ≡ Own q = sym (after_last (address_of p) p (address-back p) none) ∙ e in let z : ◌≡◌ {A = ℕ} 0 1 = cc in absurd (omega arith)
-    go (At r) next =
-        let d : Own r ≡ Own q = sym (after_next (address_of p) p r (address-back p) next) ∙ e in
+    go : (v : Option Position) → successor_of p ≡ v → place_of q ≡ suc (place_of p)
+    go None none = let d : Err (refusal 15) ≡ Ok q = sym (after_last (address_of p) p (address-back p) none) ∙ e in let z : ◌≡◌ {A = ℕ} 0 1 = cc in absurd (omega arith)
+    go (Some r) next =
+        let d : Ok r ≡ Ok q = sym (after_next (address_of p) p r (address-back p) next) ∙ e in
         let same : r ≡ q = cc in
         sym (ap place_of same) ∙ successor-place p r next ∙ omega arith
 

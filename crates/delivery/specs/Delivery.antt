@@ -1,13 +1,13 @@
 -- Delivery through the whole train: document 02, 2026-14, sentence by sentence.
-use Rattle.std.specs.Prelude.{◌≡◌, Bool, true, false, List, [], ◌∷◌, map, ◌≢◌, ◌↔◌, ◌⊎◌, ℕ, suc, ◌-◌, ◌/◌, ◌%◌, ◌^◌, ◌≤◌, ◌<◌, eqb, length}
+use Rattle.std.specs.Prelude.{◌≡◌, Bool, true, false, List, [], ◌∷◌, map, ◌≢◌, ◌↔◌, ◌⊎◌, ℕ, suc, ◌-◌, ◌/◌, ◌%◌, ◌^◌, ◌≤◌, ◌<◌, eqb, length, Option, Result, Ok}
 use Rattle.identifiers.specs.Choice.{pick}
 use Rattle.identifiers.specs.Identifiers.{reserved_bit, fields_of}
 use Rattle.readings.specs.declared.position.Position.{Position}
-use Rattle.readings.specs.declared.position.AddressTaken.TheVariants.{Own}
-use Rattle.readings.specs.declared.routing.Routed.{Routed}
 use Rattle.readings.specs.Positions.{place_of, address_of, taken_after}
 use Rattle.readings.specs.Routes.{Keeps, routed_told, onward_number}
 use Rattle.delivery.specs.Hands.{Arrival, kept_by, onward_by, delivered}
+use Rattle.readings.specs.declared.routing.Passage.{Passage}
+use Rattle.identifiers.specs.declared.refusal.Refusal.{Refusal}
 
 -- "With up to five trailers at their right addresses, no two alike": the own position of each is its place, counted from the towing vehicle;
 -- "each frame .. and a sender in the train": one that no router refuses by 2 or 3, with the address of the vehicle q for its SA
@@ -54,7 +54,7 @@ pub record Taken (own : ℕ → ℕ) (place : ℕ) : Type 0 where
   pub itself : Position
   pub own_before : place_of before ≡ own place
   pub own_itself : place_of itself ≡ own (suc place)
-  pub taken : taken_after (address_of before) ≡ Own itself
+  pub taken : taken_after (address_of before) ≡ Ok itself
 
 -- Where each trailer has done so, from the towing vehicle on, all are at their right addresses.
 abbrev pub RightAddresses : Type 0
@@ -86,4 +86,4 @@ RefusedStopped = (own : ℕ → ℕ) (n number count : ℕ) (q : Position) (hand
 
 -- Kept, and sent on, is what `castanhiu_route` tells a host in numbers.
 abbrev pub ToldAlike : Type 0
-ToldAlike = (r : Routed) → ((routed_told r).kept ≡ kept_by r) × ((routed_told r).onward ≡ onward_number (onward_by r))
+ToldAlike = (r : Result (Option Passage) Refusal) → ((routed_told r).kept ≡ kept_by r) × ((routed_told r).onward ≡ onward_number (onward_by r))

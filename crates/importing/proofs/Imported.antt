@@ -7,7 +7,6 @@ use native.Mathlib.Omega.{arith}
 use lib.Dec.{eqb}
 use lib.ListN.{length, length-take}
 use Rattle.identifiers.specs.Choice.{pick}
-use Rattle.identifiers.specs.declared.answer.Answer.TheVariants as answer
 use Rattle.receiver.specs.Frames.{Frame}
 use Rattle.trains.specs.Sequences.{Line, start, ◌▹◌, size}
 use Rattle.trains.specs.Runs.{requests}
@@ -15,8 +14,6 @@ use Rattle.trains.proofs.Demand3.{requests-are-the-reading}
 use Rattle.trains.proofs.LawsSequences.{size_none, size-more}
 use Rattle.logs.specs.Lines.{line_read}
 use Rattle.logs.specs.Written.{line_text}
-use Rattle.logs.specs.declared.answer.LineAnswer.{LineAnswer}
-use Rattle.logs.specs.declared.answer.LineAnswer.TheVariants as line
 use Rattle.logs.proofs.RoundTrip.{eight-back, written-imports as reads-written, written-in-line, frame-writable}
 use Rattle.importing.specs.Logs.{LogRead, begun, stamped, refused_at, took_frame, took_line, going, holding, took_byte, took, at_end, imported}
 use Rattle.importing.specs.Lines.{Accepted, no_line, frame_first, over_first, frames_behind, frames_among, over_among}
@@ -25,6 +22,9 @@ use Rattle.importing.specs.Imports.{Writable, AllWritable, no_frame, one_more, e
 use Rattle.importing.proofs.LawsLogs.{goes_on, stops, took-append, took-stops, at-end-none}
 use Rattle.importing.proofs.LawsCuts.{one_list, some-list, accepted-or-bad, never_both}
 use Rattle.importing.proofs.LawsTaken.{reading, took-frame, took-accepted, took-bad, ended, long-ends}
+use Rattle.std.specs.Prelude.{Some, None, Ok, Err}
+use Rattle.logs.specs.Outcomes.{LineRead, data_bytes}
+use Rattle.logs.specs.declared.answer.LogFrame.{LogFrame}
 
 -- ---- lines
 pub some-lines : SomeLines
@@ -54,7 +54,7 @@ lines-are-counted (over_first e a) = omega (arith, lines-are-counted a)
 size-behind : {ls : List (List ℕ)} (h : Line) (a : Accepted ls) → size (frames_behind h a) ≡ size h + frames_among a
 unfolding frames_behind frames_among
 size-behind h no_line = omega arith
-size-behind h (frame_first {l} e a) = omega (arith, size-behind (h ▹ stamped (line_read l)) a, size-more h (stamped (line_read l)))
+size-behind h (frame_first {f} e a) = omega (arith, size-behind (h ▹ stamped f) a, size-more h (stamped f))
 size-behind h (over_first e a) = size-behind h a
 
 pub every-line-counted : EveryLineCounted
@@ -64,7 +64,7 @@ pub first-bad-line : FirstBadLine
 first-bad-line log ls x n why b =
     let e = ended x in
     let m : 0 + (length b.front + 1) ≡ n = omega (arith, b.number) in
-    e.same ∙ took-bad b.bad b.more why e.cut b.before b.are b.refuses 0 0 0 start ∙ ap (λ (k : ℕ). refused_at k (answer.Refused why)) m
+    e.same ∙ took-bad b.bad b.more why e.cut b.before b.are b.refuses 0 0 0 start ∙ ap (λ (k : ℕ). refused_at k why) m
 
 -- ---- pieces
 pub in_pieces : InPieces
@@ -79,40 +79,41 @@ unfolding imported
 long-stays log more e h = ap at_end (took-append begun log more) ∙ long-ends (took begun log) more (goes_on e) h
 
 -- ---- written, and imported again
-frame_back : (f : Frame) → Writable f → ((line_read (line_text f.identifier f.bytes f.stamp)).answer ≡ line.Frame) × (stamped (line_read (line_text f.identifier f.bytes f.stamp)) ≡ f)
+-- the frame that its line is read as
+abbrev read_back : Frame → LogFrame
+read_back f = record { identifier = f.identifier; stamp = f.stamp; «data» = data_bytes f.bytes }
+
+stamped-back : (f : Frame) → stamped (read_back f) ≡ f
 unfolding stamped
-frame_back f w =
-    let e = reads-written f.identifier f.bytes f.stamp w.range w.few w.bytes w.small in
-    (rw e, rw (e, eight-back f.bytes))
+stamped-back f = rw (eight-back f.bytes)
 
 took-exported : (h : Line) → AllWritable h → took begun (exported h) ≡ reading (size h) (size h) 0 h
 unfolding took exported
 took-exported start no_frame = rw size_none
 took-exported (h ▹ f) (one_more a w) =
-    let b = frame_back f w in
     let n : size h + 1 ≡ size (h ▹ f) = omega (arith, size-more h f) in
     took-append begun (exported h) (line_text f.identifier f.bytes f.stamp ++ (10 ∷ []))
     ∙ ap (λ (r : LogRead). took r (line_text f.identifier f.bytes f.stamp ++ (10 ∷ []))) (took-exported h a)
-    ∙ took-frame (size h) (size h) 0 h _ [] (written-in-line f.identifier f.bytes f.stamp w.range w.few w.bytes w.small) b.0
-    ∙ λ i. reading (n i) (n i) 0 (h ▹ b.1 i)
+    ∙ took-frame (size h) (size h) 0 h _ [] (written-in-line f.identifier f.bytes f.stamp w.range w.few w.bytes w.small) (reads-written f.identifier f.bytes f.stamp w.range w.few w.bytes w.small)
+    ∙ λ i. reading (n i) (n i) 0 (h ▹ stamped-back f i)
 
 pub written-imports : WrittenImports
 unfolding imported
 written-imports h a = ap at_end (took-exported h a) ∙ at-end-none (reading (size h) (size h) 0 h) refl
 
 -- ---- imported, and fit to be written
-frame-kept : (l : List ℕ) → (line_read l).answer ≡ line.Frame → Writable (stamped (line_read l))
+frame-kept : (l : List ℕ) (f : LogFrame) → line_read l ≡ Ok (Some f) → Writable (stamped f)
 unfolding stamped
-frame-kept l e = let w = frame-writable l e in record { range = w.range; few = simp length-take (omega (arith, w.few)); bytes = w.each; small = w.small }
+frame-kept l f e = let w = frame-writable l f e in record { range = w.range; few = simp length-take (omega (arith, w.few)); bytes = w.each; small = w.small }
 
 line_kept : (r : LogRead) → AllWritable r.sequence → AllWritable (took_line r).sequence
 unfolding took_line took_frame
-line_kept r a = by_answer (line_read r.held).answer refl
+line_kept r a = by_answer (line_read r.held) refl
   where
-    by_answer : (t : LineAnswer) → (line_read r.held).answer ≡ t → AllWritable (took_frame r (line_read r.held) t).sequence
-    by_answer line.Frame e = one_more a (frame-kept r.held e)
-    by_answer line.PassedOver e = a
-    by_answer (line.Refused why) e = no_frame
+    by_answer : (t : LineRead) → line_read r.held ≡ t → AllWritable (took_frame r t).sequence
+    by_answer (Ok (Some f)) e = one_more a (frame-kept r.held f e)
+    by_answer (Ok None) e = a
+    by_answer (Err why) e = no_frame
 
 byte-kept : (r : LogRead) (b : ℕ) → AllWritable r.sequence → AllWritable (took_byte r b).sequence
 unfolding took_byte pick

@@ -12,12 +12,12 @@ use Rattle.logs.specs.Grammar.{Each}
 use Rattle.logs.specs.Grammar.Each.{none, one}
 use Rattle.logs.specs.Fronts.{in_line}
 use Rattle.logs.specs.Lines.{line_read}
-use Rattle.logs.specs.declared.answer.LineAnswer.{LineAnswer}
-use Rattle.logs.specs.declared.answer.LineAnswer.TheVariants as line
 use Rattle.logs.proofs.LawsFronts.{in-line}
 use Rattle.importing.specs.Lines.{Cut, rest_only, line_first, counted, LinesOf, lines_are, Accepted, no_line, frame_first, over_first}
 use Rattle.importing.specs.Imports.{FirstBad}
 use Rattle.importing.proofs.LawsLogs.{not-newline}
+use Rattle.std.specs.Prelude.{Some, None, Ok, Err}
+use Rattle.logs.specs.Outcomes.{LineRead}
 
 -- ---- a newline stands in no line
 none_inside : {rest : List ℕ} (l log : List ℕ) → Each in_line rest → rest ≡ l ++ (10 ∷ log) → ⊥
@@ -50,10 +50,10 @@ pub one_list : {log : List ℕ} {ls ks : List (List ℕ)} → LinesOf log ls →
 one_list (lines_are c) (lines_are d) = let i = one-cut c d refl in ap₂ counted i.0 i.1
 
 -- ---- every log is cut
-abbrev Some : List ℕ → Type 0
-Some log = (ls : List (List ℕ)) × (rest : List ℕ) × Cut log ls rest
+abbrev SomeCut : List ℕ → Type 0
+SomeCut log = (ls : List (List ℕ)) × (rest : List ℕ) × Cut log ls rest
 
-one-byte-more : (b : ℕ) {log : List ℕ} {ls : List (List ℕ)} {rest : List ℕ} → in_line b ≡ true → Cut log ls rest → Some (b ∷ log)
+one-byte-more : (b : ℕ) {log : List ℕ} {ls : List (List ℕ)} {rest : List ℕ} → in_line b ≡ true → Cut log ls rest → SomeCut (b ∷ log)
 one-byte-more b h (rest_only {rest} k) = ([], b ∷ rest, rest_only (one h k))
 one-byte-more b h (line_first {l} {log} {ls} {rest} k c) = ((b ∷ l) ∷ ls, rest, line_first (one h k) c)
 
@@ -61,8 +61,8 @@ pub some-cut : (log : List ℕ) → (ls : List (List ℕ)) × (rest : List ℕ) 
 some-cut [] = ([], [], rest_only none)
 some-cut (b ∷ log) = by_byte (eqb b 10) refl (some-cut log)
   where
-    by_byte : (t : Bool) → eqb b 10 ≡ t → Some log → Some (b ∷ log)
-    by_byte true e c = (let d : Some (10 ∷ log) = ([] ∷ c.0, c.1, line_first none c.2) in rw (eqb-true b 10 e) d)
+    by_byte : (t : Bool) → eqb b 10 ≡ t → SomeCut log → SomeCut (b ∷ log)
+    by_byte true e c = (let d : SomeCut (10 ∷ log) = ([] ∷ c.0, c.1, line_first none c.2) in rw (eqb-true b 10 e) d)
     by_byte false e c = one-byte-more b (in-line b (eqb-false b 10 e)) c.2
 
 pub some-list : (log : List ℕ) → (ls : List (List ℕ)) × LinesOf log ls
@@ -95,18 +95,18 @@ one-line-more l {ls} more (inr (n, (why, b))) = inr (n + 1, (why, later))
 
 pub accepted-or-bad : (ls : List (List ℕ)) → Accepted ls ⊎ ((n : ℕ) × ((why : Refusal) × FirstBad ls n why))
 accepted-or-bad [] = inl no_line
-accepted-or-bad (l ∷ ls) = by_answer (line_read l).answer refl (accepted-or-bad ls)
+accepted-or-bad (l ∷ ls) = by_answer (line_read l) refl (accepted-or-bad ls)
   where
-    first : (why : Refusal) → (line_read l).answer ≡ line.Refused why → FirstBad (l ∷ ls) 1 why
+    first : (why : Refusal) → line_read l ≡ Err why → FirstBad (l ∷ ls) 1 why
     first why e = record { front = []; bad = l; more = ls; are = refl; before = no_line; refuses = e; number = refl }
 
-    by_answer : (a : LineAnswer) → (line_read l).answer ≡ a → Accepted ls ⊎ Bad ls → Accepted (l ∷ ls) ⊎ Bad (l ∷ ls)
-    by_answer line.Frame e x = one-line-more l (λ ks. frame_first e) x
-    by_answer line.PassedOver e x = one-line-more l (λ ks. over_first e) x
-    by_answer (line.Refused why) e x = inr (1, (why, first why e))
+    by_answer : (a : LineRead) → line_read l ≡ a → Accepted ls ⊎ Bad ls → Accepted (l ∷ ls) ⊎ Bad (l ∷ ls)
+    by_answer (Ok (Some f)) e x = one-line-more l (λ ks. frame_first e) x
+    by_answer (Ok None) e x = one-line-more l (λ ks. over_first e) x
+    by_answer (Err why) e x = inr (1, (why, first why e))
 
 bad-refuted : (front : List (List ℕ)) (bad : List ℕ) (more : List (List ℕ)) {ls : List (List ℕ)} (why : Refusal)
-    → Accepted ls → ls ≡ front ++ (bad ∷ more) → (line_read bad).answer ≡ line.Refused why → ⊥
+    → Accepted ls → ls ≡ front ++ (bad ∷ more) → line_read bad ≡ Err why → ⊥
 bad-refuted [] bad more why no_line e q = let z : ◌≡◌ {A = ℕ} 0 1 = cc in omega arith
 bad-refuted [] bad more why (frame_first {l} h a) e q = let i : l ≡ bad = cc in let z : ◌≡◌ {A = ℕ} 0 1 = cc in omega arith
 bad-refuted [] bad more why (over_first {l} h a) e q = let i : l ≡ bad = cc in let z : ◌≡◌ {A = ℕ} 0 1 = cc in omega arith

@@ -7,54 +7,52 @@ use native.Mathlib.Omega.{arith}
 use borrow.Author.Tests.{eq-eqb, ne_eqb}
 use lib.ListN.{length}
 use Rattle.identifiers.specs.declared.refusal.Refusal.{Refusal}
-use Rattle.identifiers.specs.declared.answer.Answer.{Answer}
-use Rattle.identifiers.specs.declared.answer.Answer.TheVariants as answer
 use Rattle.identifiers.proofs.LawsChoice.{pick_true, pick-false}
 use Rattle.trains.specs.Sequences.{◌▹◌}
 use Rattle.logs.specs.Grammar.{Each}
 use Rattle.logs.specs.Grammar.Each.{none, one}
 use Rattle.logs.specs.Fronts.{in_line}
 use Rattle.logs.specs.Lines.{line_read}
-use Rattle.logs.specs.declared.answer.LineAnswer.{LineAnswer}
-use Rattle.logs.specs.declared.answer.LineAnswer.TheVariants as line
 use Rattle.logs.proofs.LawsFronts.{ends-line}
 use Rattle.importing.specs.Logs.{LogRead, begun, imported, stamped, refused_at, took_frame, took_line, going, holding, took_byte, took, at_end}
+use Rattle.std.specs.Prelude.{Some, None, Ok, Err, Result}
+use Rattle.logs.specs.Outcomes.{LineRead}
+use Rattle.logs.specs.declared.answer.LogFrame.{LogFrame}
 
 -- ---- the answer so far
-pub goes_on : {a : Answer} → a ≡ answer.Done → going a ≡ true
+pub goes_on : {a : Result (Unit {0}) Refusal} → a ≡ Ok tt → going a ≡ true
 unfolding going
 goes_on e = rw e
 
-pub stops : {a : Answer} {why : Refusal} → a ≡ answer.Refused why → going a ≡ false
+pub stops : {a : Result (Unit {0}) Refusal} {why : Refusal} → a ≡ Err why → going a ≡ false
 unfolding going
 stops e = rw e
 
 -- ---- a line, by what it is read as
 module _ (r : LogRead) where
-  pub line_frame : (line_read r.held).answer ≡ line.Frame
-      → took_line r
-      ≡ record { held = []; lines = r.lines + 1; frames = r.frames + 1; passed = r.passed; sequence = r.sequence ▹ stamped (line_read r.held); answer = answer.Done }
+  pub line_frame : {f : LogFrame} → line_read r.held ≡ Ok (Some f)
+      → took_line r ≡ record { held = []; lines = r.lines + 1; frames = r.frames + 1; passed = r.passed; sequence = r.sequence ▹ stamped f; answer = Ok tt }
   unfolding took_line took_frame
   line_frame e = rw e
 
-  pub line-over : (line_read r.held).answer ≡ line.PassedOver
-      → took_line r ≡ record { held = []; lines = r.lines + 1; frames = r.frames; passed = r.passed + 1; sequence = r.sequence; answer = answer.Done }
+  pub line-over : line_read r.held ≡ Ok None
+      → took_line r ≡ record { held = []; lines = r.lines + 1; frames = r.frames; passed = r.passed + 1; sequence = r.sequence; answer = Ok tt }
   unfolding took_line took_frame
   line-over e = rw e
 
-  pub line_refused : (why : Refusal) → (line_read r.held).answer ≡ line.Refused why → took_line r ≡ refused_at (r.lines + 1) (answer.Refused why)
+  pub line_refused : (why : Refusal) → line_read r.held ≡ Err why → took_line r ≡ refused_at (r.lines + 1) why
   unfolding took_line took_frame
   line_refused why e = rw e
 
   -- whatever it is, nothing is held behind it
   pub line-holds-none : (took_line r).held ≡ []
   unfolding took_line took_frame
-  line-holds-none = by_answer (line_read r.held).answer
+  line-holds-none = by_answer (line_read r.held)
     where
-      by_answer : (a : LineAnswer) → (took_frame r (line_read r.held) a).held ≡ []
-      by_answer line.Frame = refl
-      by_answer line.PassedOver = refl
-      by_answer (line.Refused why) = refl
+      by_answer : (a : LineRead) → (took_frame r a).held ≡ []
+      by_answer (Ok (Some f)) = refl
+      by_answer (Ok None) = refl
+      by_answer (Err why) = refl
 
 -- ---- one byte
 pub not-newline : (b : ℕ) → in_line b ≡ true → b ≡ 10 → ⊥

@@ -1,10 +1,10 @@
 -- The lines of a log, and what they say, by the log alone: no fold and no state.
-use Rattle.std.specs.Prelude.{◌≡◌, List, [], ◌∷◌, ◌++◌, ℕ, suc}
+use Rattle.std.specs.Prelude.{◌≡◌, List, [], ◌∷◌, ◌++◌, ℕ, suc, Some, None, Ok}
 use Rattle.trains.specs.Sequences.{Line, ◌▹◌}
 use Rattle.logs.specs.Grammar.{Each}
 use Rattle.logs.specs.Fronts.{in_line}
 use Rattle.logs.specs.Lines.{line_read}
-use Rattle.logs.specs.declared.answer.LineAnswer.TheVariants as line
+use Rattle.logs.specs.declared.answer.LogFrame.{LogFrame}
 use Rattle.importing.specs.Logs.{stamped}
 
 -- lines "end at a newline": the lines that a newline ends, and what stands behind the last of them
@@ -23,13 +23,13 @@ pub data LinesOf (log : List ℕ) : List (List ℕ) → Type 0 where
 -- every line is a frame or is passed over
 pub data Accepted : List (List ℕ) → Type 0 where
   no_line : Accepted []
-  frame_first : {l : List ℕ} {ls : List (List ℕ)} → (line_read l).answer ≡ line.Frame → Accepted ls → Accepted (l ∷ ls)
-  over_first : {l : List ℕ} {ls : List (List ℕ)} → (line_read l).answer ≡ line.PassedOver → Accepted ls → Accepted (l ∷ ls)
+  frame_first : {l : List ℕ} {f : LogFrame} {ls : List (List ℕ)} → line_read l ≡ Ok (Some f) → Accepted ls → Accepted (l ∷ ls)
+  over_first : {l : List ℕ} {ls : List (List ℕ)} → line_read l ≡ Ok None → Accepted ls → Accepted (l ∷ ls)
 
 -- the frames of lines, in order, behind those of a sequence; how many are frames, and how many are passed over
 unfoldable pub frames_behind : {ls : List (List ℕ)} → Line → Accepted ls → Line
 frames_behind h no_line = h
-frames_behind h (frame_first {l = l} e a) = frames_behind (h ▹ stamped (line_read l)) a
+frames_behind h (frame_first {f = f} e a) = frames_behind (h ▹ stamped f) a
 frames_behind h (over_first e a) = frames_behind h a
 
 unfoldable pub frames_among : {ls : List (List ℕ)} → Accepted ls → ℕ

@@ -1,13 +1,11 @@
 -- A log imported, byte after byte (document 02, 2026-02): whatever pieces it comes in, the bytes are the same.
-use Rattle.std.specs.Prelude.{Bool, true, false, List, [], ◌∷◌, ◌++◌, ℕ, ◌+◌, eqb, length, take}
+use Rattle.std.specs.Prelude.{Bool, true, false, List, [], ◌∷◌, ◌++◌, ℕ, ◌+◌, eqb, length, take, Some, None, Result, Ok, Err}
 use Rattle.identifiers.specs.Choice.{pick}
-use Rattle.identifiers.specs.declared.answer.Answer.{Answer}
-use Rattle.identifiers.specs.declared.answer.Answer.TheVariants as answer
+use Rattle.identifiers.specs.declared.refusal.Refusal.{Refusal}
 use Rattle.receiver.specs.Frames.{Frame}
 use Rattle.trains.specs.Sequences.{Line, start, ◌▹◌}
+use Rattle.logs.specs.Outcomes.{LineRead}
 use Rattle.logs.specs.Lines.{line_read}
-use Rattle.logs.specs.declared.answer.LineAnswer.{LineAnswer}
-use Rattle.logs.specs.declared.answer.LineAnswer.TheVariants as line
 use Rattle.logs.specs.declared.answer.LogFrame.{LogFrame}
 
 -- what is known of a log so far: the bytes of the line that has begun; how many lines, frames and lines passed over; the frames in order,
@@ -18,33 +16,33 @@ pub record LogRead : Type 0 where
   pub frames : ℕ
   pub passed : ℕ
   pub sequence : Line
-  pub answer : Answer
+  pub answer : Result (Unit {0}) Refusal
 
 abbrev pub begun : LogRead
-begun = record { held = []; lines = 0; frames = 0; passed = 0; sequence = start; answer = answer.Done }
+begun = record { held = []; lines = 0; frames = 0; passed = 0; sequence = start; answer = Ok tt }
 
 -- "into a stamped frame"
 unfoldable pub stamped : LogFrame → Frame
-stamped f = record { identifier = f.identifier; bytes = take f.length f.«data»; stamp = f.stamp }
+stamped f = record { identifier = f.identifier; bytes = take f.«data».count f.«data».bytes; stamp = f.stamp }
 
 -- a refused log hands over no frame: its refusal, and the number of the line
-abbrev pub refused_at : ℕ → Answer → LogRead
-refused_at n why = record { held = []; lines = n; frames = 0; passed = 0; sequence = start; answer = why }
+abbrev pub refused_at : ℕ → Refusal → LogRead
+refused_at n why = record { held = []; lines = n; frames = 0; passed = 0; sequence = start; answer = Err why }
 
 -- "Import turns each extended data frame .. into a stamped frame"; "Lines with three-digit identifiers are counted and passed over";
--- "25 malformed line .. with its number; then 2": a line that was read as f
-unfoldable pub took_frame : LogRead → LogFrame → LineAnswer → LogRead
-took_frame r f line.Frame = record { held = []; lines = r.lines + 1; frames = r.frames + 1; passed = r.passed; sequence = r.sequence ▹ stamped f; answer = answer.Done }
-took_frame r f line.PassedOver = record { held = []; lines = r.lines + 1; frames = r.frames; passed = r.passed + 1; sequence = r.sequence; answer = answer.Done }
-took_frame r f (line.Refused why) = refused_at (r.lines + 1) (answer.Refused why)
+-- "25 malformed line .. with its number; then 2": a line by what it is read as
+unfoldable pub took_frame : LogRead → LineRead → LogRead
+took_frame r (Ok (Some f)) = record { held = []; lines = r.lines + 1; frames = r.frames + 1; passed = r.passed; sequence = r.sequence ▹ stamped f; answer = Ok tt }
+took_frame r (Ok None) = record { held = []; lines = r.lines + 1; frames = r.frames; passed = r.passed + 1; sequence = r.sequence; answer = Ok tt }
+took_frame r (Err why) = refused_at (r.lines + 1) why
 
 unfoldable pub took_line : LogRead → LogRead
-took_line r = took_frame r (line_read r.held) (line_read r.held).answer
+took_line r = took_frame r (line_read r.held)
 
 -- no line was refused yet
-unfoldable pub going : Answer → Bool
-going answer.Done = true
-going (answer.Refused why) = false
+unfoldable pub going : Result (Unit {0}) Refusal → Bool
+going (Ok u) = true
+going (Err why) = false
 
 abbrev pub holding : LogRead → List ℕ → LogRead
 holding r l = record { held = l; lines = r.lines; frames = r.frames; passed = r.passed; sequence = r.sequence; answer = r.answer }

@@ -1,8 +1,7 @@
 -- What the program `import` prints of a log, as bytes of ASCII.
-use Rattle.std.specs.Prelude.{List, [], ◌∷◌, ◌++◌, ℕ}
+use Rattle.std.specs.Prelude.{List, [], ◌∷◌, ◌++◌, ℕ, Result, Ok, Err}
 use Rattle.identifiers.specs.Refusals.{number_of}
-use Rattle.identifiers.specs.declared.answer.Answer.{Answer}
-use Rattle.identifiers.specs.declared.answer.Answer.TheVariants.{Done, Refused}
+use Rattle.identifiers.specs.declared.refusal.Refusal.{Refusal}
 use Rattle.text.specs.Digits.{decimal, newline}
 use Rattle.importing.specs.Logs.{LogRead}
 
@@ -20,9 +19,9 @@ unfoldable pub refused_text : ℕ → ℕ → List ℕ
 refused_text number line =
     (114 ∷ 101 ∷ 102 ∷ 117 ∷ 115 ∷ 101 ∷ 100 ∷ 32 ∷ []) ++ decimal number ++ (32 ∷ 97 ∷ 116 ∷ 32 ∷ 108 ∷ 105 ∷ 110 ∷ 101 ∷ 32 ∷ []) ++ decimal line ++ newline
 
-abbrev pub summary_by : Answer → ℕ → ℕ → ℕ → List ℕ
-summary_by Done lines frames passed = counts_text frames passed
-summary_by (Refused why) lines frames passed = refused_text (number_of why) lines
+abbrev pub summary_by : Result (Unit {0}) Refusal → ℕ → ℕ → ℕ → List ℕ
+summary_by (Ok u) lines frames passed = counts_text frames passed
+summary_by (Err why) lines frames passed = refused_text (number_of why) lines
 
 abbrev pub summary_text : LogRead → List ℕ
 summary_text r = summary_by r.answer r.lines r.frames r.passed

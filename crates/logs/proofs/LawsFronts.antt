@@ -9,27 +9,46 @@ use borrow.Author.Tests.{eq-eqb, ne_eqb, eqb-true, not-false, ltb-true, ltb-fals
 use lib.Dec.{eqb, leb, ltb}
 use lib.ListN.{length, get_or, take, drop, take-append-drop, length-append}
 use lib.Seq.{take_all, length-take-le, get_or-append_seam}
+use Rattle.std.specs.Prelude.{Some, None, Err, cond, position}
+use Rattle.std.specs.List.{prefix_len}
 use Rattle.identifiers.specs.Choice.{both}
 use Rattle.identifiers.specs.Refusals.{refusal}
-use Rattle.identifiers.proofs.LawsChoice.{and_is, both_true, so, pick_true, pick-false}
+use Rattle.identifiers.proofs.LawsChoice.{and_is, both_true, stop, so, pick_true, pick-false}
 use Rattle.text.specs.Digits.{between, is_digit}
 use Rattle.text.proofs.LawsValue.{within, none_below}
 use Rattle.logs.specs.Grammar.{Each, IsLine, Formed, number_of_name}
 use Rattle.logs.specs.Grammar.Each.{one}
-use Rattle.logs.specs.Outcomes.{without}
-use Rattle.logs.specs.Parts.{run_length, end_of}
+use Rattle.logs.specs.Parts.{run_length}
 use Rattle.logs.specs.Lines.{end_at, begins, said, line_read}
-use Rattle.logs.specs.Scans.{scanned, answer_of}
+use Rattle.logs.specs.Scans.{scanned}
 use Rattle.logs.specs.Fronts.{in_line, front_end, front_read}
-use Rattle.logs.specs.declared.answer.LineAnswer.TheVariants.{Refused}
-use Rattle.logs.specs.declared.answer.LogFrame.{LogFrame}
 use Rattle.logs.specs.declared.read.Front.{Front}
 use Rattle.logs.specs.declared.scan.Scanned.{Scanned}
-use Rattle.logs.proofs.LawsRuns.{run-le, run_of, run-each, run-stopped, stands, cut-byte, each_append, each-so}
-use Rattle.logs.proofs.LawsLines.{scan-asked, scan-end, scan-said}
+use Rattle.logs.proofs.LawsFound.{some_picked, none_picked}
+use Rattle.logs.proofs.LawsRuns.{run-prefix, run_of, run-each, run-stopped, stands, cut-byte, each_append, each-so}
+use Rattle.logs.proofs.LawsLines.{scan-some, scan-none}
 use Rattle.logs.proofs.LawsForms.{Form, end-length, form-begins, line-form}
 use Rattle.logs.proofs.LawsBegins.{begins-line, end-near}
 use Rattle.logs.proofs.ReadLines.{said-over, said-2, said-frame, line-over, line-2, line_frame, line-25}
+
+-- what a search for a place finds
+module _ (p : ℕ → Bool) (t : List ℕ) where
+  abbrev place : ℕ
+  place = prefix_len (λ b. not (p b)) t
+
+  position-some : {end : ℕ} → Some end ≡ position p t → (place < length t) × (end ≡ place)
+  position-some {end} e = by_place (ltb place (length t)) refl e
+    where
+      by_place : (b : Bool) → ltb place (length t) ≡ b → Some end ≡ cond b (Some place) None → (place < length t) × (end ≡ place)
+      by_place true q f = (ltb-true _ _ q, cc)
+      by_place false q f = cc
+
+  position-none : None ≡ position p t → length t ≤ place
+  position-none e = by_place (ltb place (length t)) refl e
+    where
+      by_place : (b : Bool) → ltb place (length t) ≡ b → None ≡ cond b (Some place) None → length t ≤ place
+      by_place true q f = cc
+      by_place false q f = ltb-false _ _ q
 
 pub in-line : (b : ℕ) → (b ≡ 10 → ⊥) → in_line b ≡ true
 unfolding in_line
@@ -43,15 +62,7 @@ is_newline : (b : ℕ) → in_line b ≡ false → b ≡ 10
 unfolding in_line
 is_newline b e = eqb-true _ _ (not-false _ e)
 
-pub end_is : (t : List ℕ) → end_of in_line t 0 ≡ front_end t
-unfolding end_of front_end
-end_is t = omega arith
-
 -- ---- where the front line ends
-pub front-le : (t : List ℕ) → front_end t ≤ length t
-unfolding front_end
-front-le t = run-le in_line t
-
 -- the bytes before a newline that is the first
 pub front_of : (l rest : List ℕ) → Each in_line l → front_end (l ++ (10 ∷ rest)) ≡ length l
 unfolding front_end
@@ -91,13 +102,22 @@ line-in-line {l} {seconds} {micros} {blanks} {interface} {name} {digits} is =
     (each_append name _ (each-so (digit 16 (omega arith)) name m.name_digits)
     (one (byte 35 (omega arith)) (each-so (digit 16 (omega arith)) digits m.data_digits)))))))))))
 
+-- where the code looks for a newline
+pub newline-found : (t : List ℕ) {end : ℕ} → Some end ≡ position (λ b. eqb b 10) t → (front_end t < length t) × (end ≡ front_end t)
+unfolding front_end in_line
+newline-found t e = rw run-prefix at (position-some (λ b. eqb b 10) t e)
+
+pub newline-none : (t : List ℕ) → None ≡ position (λ b. eqb b 10) t → length t ≤ front_end t
+unfolding front_end in_line
+newline-none t e = rw run-prefix at (position-none (λ b. eqb b 10) t e)
+
 -- ---- what is read of the front line
 module _ (t : List ℕ) where
-  front-whole : front_end t < length t → front_read t ≡ record { ended = true; next = front_end t + 1; frame = line_read (take (front_end t) t) }
+  front-whole : front_end t < length t → front_read t ≡ Some (record { next = front_end t + 1; line = line_read (take (front_end t) t) })
   unfolding front_read
   front-whole h = pick_true _ _ (lt-ltb _ _ h)
 
-  pub front-begun : length t ≤ front_end t → front_read t ≡ record { ended = false; next = 0; frame = without (Refused (refusal 25)) }
+  pub front-begun : length t ≤ front_end t → front_read t ≡ None
   unfolding front_read
   front-begun h = pick-false _ _ (le-ltb _ _ h)
 
@@ -130,7 +150,7 @@ module _ (t : List ℕ) where
         by_number z false q = let g = ltb-false _ _ q in line-2 a z g ∙ sym (said-2 f stops z g)
 
   -- where no such parts stand at the front, the front line is malformed
-  pub front-malformed : both (begins t) (both (eqb (get_or t (end_at t) 0) 10) (leb (end_at t) 255)) ≡ false → front_end t < length t → line_read (take (front_end t) t) ≡ without (Refused (refusal 25))
+  pub front-malformed : both (begins t) (both (eqb (get_or t (end_at t) 0) 10) (leb (end_at t) 255)) ≡ false → front_end t < length t → line_read (take (front_end t) t) ≡ Err (refusal 25)
   front-malformed q h = line-25 (take (front_end t) t) (λ a. false≢true (sym q ∙ sound a))
     where
       sound : Formed (take (front_end t) t) → both (begins t) (both (eqb (get_or t (end_at t) 0) 10) (leb (end_at t) 255)) ≡ true
@@ -145,49 +165,51 @@ module _ (t : List ℕ) where
           sym (so (form-begins f) (so (eq-eqb _ _ b) (sym (le-leb (end_at t) 255 (omega (arith, n, a.is.short))))))
 
   -- ---- as the code asks it
-  module _ {s : Scanned} {x : ℕ} (e : s ≡ scanned t) (b : x ≡ get_or t s.end 0) where
-    front-test : (s.begins && (eqb x 10 && leb s.end 255)) ≡ both (begins t) (both (eqb (get_or t (end_at t) 0) 10) (leb (end_at t) 255))
-    front-test = rw b (scan-asked t (λ (n : ℕ). eqb (get_or t n 0) 10 && leb n 255) e) ∙ ap (both (begins t)) (and_is (eqb (get_or t (end_at t) 0) 10) (leb (end_at t) 255))
+  -- the front line is sound: it ends where its parts end
+  abbrev pub sound_line : Bool
+  sound_line = both (begins t) (both (eqb (get_or t (end_at t) 0) 10) (leb (end_at t) 255))
 
-    pub read-sound : {f : LogFrame} → (s.begins && (eqb x 10 && leb s.end 255)) ≡ true → f ≡ answer_of s → record { ended = true; next = s.end + 1; frame = f } ≡ front_read t
-    read-sound {f} q d =
+  pub not_sound : None ≡ scanned t → sound_line ≡ false
+  not_sound e = sym (stop _ (scan-none t e))
+
+  module _ {s : Scanned} {x : ℕ} (e : Some s ≡ scanned t) (b : x ≡ get_or t s.end 0) where
+    pub front-test : (eqb x 10 && leb s.end 255) ≡ sound_line
+    front-test =
+        let f = scan-some t e in
+        rw b (and_is _ _ ∙ ap (λ (y : Scanned). both (eqb (get_or t y.end 0) 10) (leb y.end 255)) f.1 ∙ so f.0 refl)
+
+    pub read-sound : (eqb x 10 && leb s.end 255) ≡ true → Some (record { next = s.end + 1; line = s.line }) ≡ front_read t
+    read-sound q =
         let r = both_true _ _ (sym front-test ∙ q) in
         let w = both_true _ _ r.1 in
         let n : get_or t (end_at t) 0 ≡ 10 = eqb-true _ _ w.0 in
         let h : end_at t ≤ 255 = leb-true _ _ w.1 in
         let k : front_end t ≡ end_at t = sound-end r.0 n h in
-        let p : s.end ≡ front_end t = ap (λ (y : Scanned). y.end) e ∙ scan-end t r.0 ∙ sym k in
-        let g : f ≡ line_read (take (front_end t) t) = d ∙ ap answer_of e ∙ scan-said t r.0 ∙ sym (sound-said r.0 n h) ∙ ap (λ (i : ℕ). line_read (take i t)) (sym k) in
+        let f = (scan-some t e).1 in
+        let p : s.end ≡ front_end t = ap (λ (y : Scanned). y.end) f ∙ sym k in
+        let g : s.line ≡ line_read (take (front_end t) t) = ap (λ (y : Scanned). y.line) f ∙ sym (sound-said r.0 n h) ∙ ap (λ (i : ℕ). line_read (take i t)) (sym k) in
         rw (p, g) (sym (front-whole (omega (arith, k, stands t (end_at t) n (omega arith)))))
 
-    pub read-malformed : {f : LogFrame} {end : ℕ} → (s.begins && (eqb x 10 && leb s.end 255)) ≡ false → f ≡ without (Refused (refusal 25)) → end ≡ front_end t → end < length t
-        → record { ended = true; next = end + 1; frame = f } ≡ front_read t
-    read-malformed {f} {end} q d k h =
-        let l : front_end t < length t = omega arith in
-        rw (k, d) (sym (front-whole l ∙ ap (λ (g : LogFrame). record { ended = true; next = front_end t + 1; frame = g }) (front-malformed (sym front-test ∙ q) l)))
+  pub read-malformed : {end : ℕ} → sound_line ≡ false → Some end ≡ position (λ b. eqb b 10) t → Some (record { next = end + 1; line = Err (refusal 25) }) ≡ front_read t
+  read-malformed {end} q e =
+      let f = newline-found t e in
+      rw (f.1, ← front-malformed q f.0) (sym (front-whole f.0))
 
-  pub read-begun : {f : LogFrame} {end : ℕ} → f ≡ without (Refused (refusal 25)) → end ≡ front_end t → length t ≤ end → record { ended = false; next = 0; frame = f } ≡ front_read t
-  read-begun {f} {end} d k h = rw d (sym (front-begun (omega arith)))
+  pub read-begun : None ≡ position (λ b. eqb b 10) t → None ≡ front_read t
+  read-begun e = sym (front-begun (newline-none t e))
 
   -- ---- what the answer says of the text
   pub record Ended (f : Front) : Type 0 where
     pub inside : front_end t < length t
     pub behind : f.next ≡ front_end t + 1
-    pub reads : f.frame ≡ line_read (take (front_end t) t)
+    pub reads : f.line ≡ line_read (take (front_end t) t)
 
-  pub front-ended : {f : Front} → f ≡ front_read t → f.ended ≡ true → Ended f
-  front-ended {f} e q = by_end (ltb (front_end t) (length t)) refl
-    where
-      by_end : (b : Bool) → ltb (front_end t) (length t) ≡ b → Ended f
-      by_end true z =
-          let h : front_end t < length t = ltb-true _ _ z in
-          let w = e ∙ front-whole h in
-          record { inside = h; behind = ap (λ (g : Front). g.next) w; reads = ap (λ (g : Front). g.frame) w }
-      by_end false z = absurd (false≢true (sym (ap (λ (g : Front). g.ended) (e ∙ front-begun (ltb-false _ _ z))) ∙ q))
+  pub front-ended : {f : Front} → Some f ≡ front_read t → Ended f
+  unfolding front_read
+  front-ended {f} e =
+      let w = some_picked _ e in
+      record { inside = ltb-true _ _ w.0; behind = ap (λ (g : Front). g.next) w.1; reads = ap (λ (g : Front). g.line) w.1 }
 
-  pub front-open : {f : Front} → f ≡ front_read t → f.ended ≡ false → Each in_line t
-  front-open {f} e q = by_end (ltb (front_end t) (length t)) refl
-    where
-      by_end : (b : Bool) → ltb (front_end t) (length t) ≡ b → Each in_line t
-      by_end true z = absurd (false≢true (sym q ∙ ap (λ (g : Front). g.ended) (e ∙ front-whole (ltb-true _ _ z))))
-      by_end false z = front-all t (ltb-false _ _ z)
+  pub front-open : None ≡ front_read t → Each in_line t
+  unfolding front_read
+  front-open e = front-all t (ltb-false _ _ (none_picked _ _ e))

@@ -4,16 +4,15 @@ use mathlib.Core.Bool.{Bool, true, false, ◌&&◌}
 use mathlib.Core.List.{List, [], ◌∷◌, ◌++◌, append_assoc, append-nil}
 use Prim.Native.Nat.{ℕ, zero, suc, ◌+◌, ◌-◌, ◌*◌, ◌≤◌, ◌<◌}
 use native.Mathlib.Omega.{arith}
-use borrow.Author.Tests.{ltb-true}
 use lib.Dec.{ltb}
 use lib.ListN.{length, get_or, set, replicate, length-append, get_or-eq_default}
 use lib.Seq.{set_at}
 use Rattle.identifiers.specs.Choice.{both}
-use Rattle.identifiers.proofs.LawsChoice.{and_is, both_true, pick_true, pick-false}
+use Rattle.identifiers.proofs.LawsChoice.{and_is, pick_true, pick-false}
 use Rattle.text.specs.Digits.{digit_value, is_digit}
 use Rattle.text.proofs.LawsValue.{digit-test, worth-none}
-use Rattle.logs.specs.Parts.{values_from, pairs_from, Paired}
-use Rattle.logs.specs.Outcomes.{eight}
+use Rattle.logs.specs.Parts.{values_from, pairs_from}
+use Rattle.logs.specs.Outcomes.{eight, data_bytes}
 
 -- ---- the values of digits from a place on
 pub values_length : (n : ℕ) (l : List ℕ) (at : ℕ) → length (values_from n l at) ≡ n
@@ -57,12 +56,6 @@ values-past (suc n) l at h =
 pub record Valued (l : List ℕ) (from : ℕ) (values : List ℕ) (i : ℕ) : Type 0 where
   pub put : values ≡ values_from i l from ++ replicate (16 - i) 16
 
--- so many digits as there are from a place on, at most sixteen
-pub record Counted (l : List ℕ) (from count : ℕ) : Type 0 where
-  pub most : count ≤ 16
-  pub near : from + count ≤ length l
-  pub all : count < 16 → length l ≤ from + count
-
 pub valued-first : (l : List ℕ) (from : ℕ) → Valued l from (replicate 16 16) 0
 unfolding values_from
 valued-first l from = record { put = refl }
@@ -102,9 +95,6 @@ module _ (n : ℕ) (l : List ℕ) (at : ℕ) {high low : ℕ} (h : high ≡ digi
   unfolding pairs_from
   pairs-stop e = pick-false _ _ (tested e)
 
-pub both_small : (high low : ℕ) → (ltb high 16 && ltb low 16) ≡ true → (high < 16) × (low < 16)
-both_small high low e = let t = both_true _ _ (sym (and_is _ _) ∙ e) in (ltb-true _ _ t.0, ltb-true _ _ t.1)
-
 -- eight turns: k bytes are put, and with those to come they are all
 pub record ToCome (l : List ℕ) (from : ℕ) (d : List ℕ) (k : ℕ) : Type 0 where
   pub taken : List ℕ
@@ -112,20 +102,18 @@ pub record ToCome (l : List ℕ) (from : ℕ) (d : List ℕ) (k : ℕ) : Type 0 
   pub put : d ≡ taken ++ replicate (8 - k) 0
   pub all : pairs_from 8 l from ≡ taken ++ pairs_from (8 - k) l (from + 2 * k)
 
-pub to-come-first : (l : List ℕ) (from : ℕ) → ToCome l from (replicate 8 0) 0
-to-come-first l from = let e : from ≡ from + 2 * 0 = omega arith in record { taken = []; long = refl; put = refl; all = ap (pairs_from 8 l) e }
-
 module _ {l : List ℕ} {from : ℕ} {d : List ℕ} {k : ℕ} (t : ToCome l from d k) where
-  pub to-come-stop : pairs_from (8 - k) l (from + 2 * k) ≡ [] → Paired l from k d
+  to-come-stop : pairs_from (8 - k) l (from + 2 * k) ≡ [] → record { count = k; bytes = d } ≡ data_bytes (pairs_from 8 l from)
   unfolding eight
   to-come-stop e =
       let a : pairs_from 8 l from ≡ t.taken = t.all ∙ ap (λ (y : List ℕ). t.taken ++ y) e ∙ append-nil t.taken in
-      let n : length (pairs_from 8 l from) ≡ k = ap length a ∙ t.long in
-      record { counts = sym n; bytes = t.put ∙ ap (λ (y : List ℕ). y ++ replicate (8 - k) 0) (sym a) ∙ ap (λ (j : ℕ). pairs_from 8 l from ++ replicate (8 - j) 0) (sym n) }
+      let n : k ≡ length (pairs_from 8 l from) = sym (ap length a ∙ t.long) in
+      let b : d ≡ eight (pairs_from 8 l from) = t.put ∙ ap (λ (y : List ℕ). y ++ replicate (8 - k) 0) (sym a) ∙ ap (λ (j : ℕ). pairs_from 8 l from ++ replicate (8 - j) 0) n in
+      λ i. record { count = n i; bytes = b i }
 
-  pub to-come-full : 8 ≤ k → Paired l from k d
+  pub to-come-full : k ≡ 8 → record { count = 8; bytes = d } ≡ data_bytes (pairs_from 8 l from)
   unfolding pairs_from
-  to-come-full h = to-come-stop (let z : 8 - k ≡ 0 = omega arith in ap (λ (j : ℕ). pairs_from j l (from + 2 * k)) z)
+  to-come-full h = ap (λ (j : ℕ). record { count = j; bytes = d }) (sym h) ∙ to-come-stop (let z : 8 - k ≡ 0 = omega arith in ap (λ (j : ℕ). pairs_from j l (from + 2 * k)) z)
 
   module _ (high low : ℕ) (less : k < 8) (h : high ≡ digit_value (get_or l (from + 2 * k) 0)) (g : low ≡ digit_value (get_or l (from + 2 * k + 1) 0)) where
     left : 8 - k ≡ suc (8 - (k + 1))
@@ -146,5 +134,5 @@ module _ {l : List ℕ} {from : ℕ} {d : List ℕ} {k : ℕ} (t : ToCome l from
               ∙ sym (append_assoc t.taken ((high * 16 + low) ∷ []) (pairs_from (8 - (k + 1)) l (from + 2 * (k + 1))));
         }
 
-    pub to-come-end : (ltb high 16 && ltb low 16) ≡ false → Paired l from k d
+    pub to-come-end : (ltb high 16 && ltb low 16) ≡ false → record { count = k; bytes = d } ≡ data_bytes (pairs_from 8 l from)
     to-come-end e = to-come-stop (ap (λ (m : ℕ). pairs_from m l (from + 2 * k)) left ∙ pairs-stop (8 - (k + 1)) l (from + 2 * k) h g e)

@@ -14,6 +14,8 @@ use Rattle.identifiers.proofs.LawsChoice.{both_true}
 use Rattle.text.specs.Digits.{is_digit}
 use Rattle.text.specs.Reading.{all_digits}
 use Rattle.text.proofs.LawsReading.{digits-none, digits-first}
+use Rattle.std.specs.Prelude.{cond}
+use Rattle.std.specs.List.{prefix_len, slice_range}
 use Rattle.logs.specs.Grammar.{Each}
 use Rattle.logs.specs.Grammar.Each.{none, one}
 use Rattle.logs.specs.Parts.{run_length, end_of, part}
@@ -27,6 +29,16 @@ run-le p (b ∷ bs) = by_byte (p b) (run-le p bs)
     by_byte : (t : Bool) → run_length p bs ≤ length bs → pick t (suc (run_length p bs)) 0 ≤ suc (length bs)
     by_byte true h = omega arith
     by_byte false h = omega arith
+
+-- a run as std counts it
+pub run-prefix : (p : ℕ → Bool) (l : List ℕ) → prefix_len p l ≡ run_length p l
+unfolding run_length pick
+run-prefix p [] = refl
+run-prefix p (b ∷ bs) = by_byte (p b) (run-prefix p bs)
+  where
+    by_byte : (t : Bool) → prefix_len p bs ≡ run_length p bs → cond t (1 + prefix_len p bs) 0 ≡ pick t (suc (run_length p bs)) 0
+    by_byte true h = omega arith
+    by_byte false h = refl
 
 module _ (p : ℕ → Bool) (l : List ℕ) where
   pub end-past : (i : ℕ) → length l ≤ i → end_of p l i ≡ i
@@ -72,6 +84,9 @@ part-is (suc from) n (x ∷ xs) = let e : suc from + n ≡ suc (from + n) = omeg
 
 pub part-between : (l : List ℕ) {from to : ℕ} → from ≤ to → part l from to ≡ take (to - from) (drop from l)
 part-between l {from} {to} h = let e : to ≡ from + (to - from) = omega arith in ap (part l from) e ∙ part-is from (to - from) l
+
+pub slice-part : (l : List ℕ) {from to : ℕ} → from ≤ to → slice_range l from to ≡ part l from to
+slice-part l h = sym (part-between l h)
 
 -- the bytes from a place on are a part, and what stands behind it
 pub cut-part : (l : List ℕ) (from n : ℕ) → drop from l ≡ part l from (from + n) ++ drop (from + n) l

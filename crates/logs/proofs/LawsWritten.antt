@@ -2,12 +2,14 @@
 use mathlib.Core.Path.{◌≡◌, refl, sym, ap, ◌∙◌}
 use mathlib.Core.List.{List, [], ◌∷◌, ◌++◌, append_assoc, append-nil}
 use Prim.Native.Nat.{ℕ, ◌+◌, ◌*◌, ◌/◌, ◌%◌, ◌^◌, ◌≤◌, ◌<◌}
-use native.Mathlib.Nat.{le_of_eq}
+use native.Mathlib.Nat.{le_of_eq, mod-eq_of_lt}
 use native.Mathlib.Numerals.{add-one}
 use native.Mathlib.Omega.{arith}
 use borrow.Author.Tests.{lt-ltb, le-ltb, le-leb, lt-leb}
 use lib.ListN.{length, get_or, take, length-append}
 use lib.Seq.{take-suc, length-take-le}
+use Rattle.std.specs.Prelude.{Ok, Err}
+use Rattle.std.specs.Int.{w32, to_be_bytes}
 use Rattle.identifiers.specs.Bytes.{Puts}
 use Rattle.identifiers.specs.Refusals.{refusal}
 use Rattle.identifiers.proofs.LawsBytes.{puts_none, puts-as, keeps-length, ◌▸◌}
@@ -17,7 +19,6 @@ use Rattle.text.specs.Putting.{PutsIfFits}
 use Rattle.text.proofs.LawsDigits.{length-decimal, length-hex}
 use Rattle.text.proofs.LawsPutting.{put-fits, room-behind}
 use Rattle.logs.specs.Written.{hexes, millis, four_bytes, can0, line_text, line_written, text_after}
-use Rattle.logs.specs.declared.answer.LineWritten.TheVariants.{Written, Refused}
 
 -- ---- bytes in a row
 pub length-hexes : (bytes : List ℕ) → length (hexes bytes) ≡ 2 * length bytes
@@ -44,6 +45,13 @@ put-more bytes {i = i} room l p q =
     puts-as (p ▸ r) (sym (ap hexes one ∙ hexes-last (take i bytes) (get_or bytes i 0)))
 
 -- ---- the parts
+-- the four bytes of an identifier, as the code takes them
+pub name-bytes : (n : ℕ) → n < 2 ^ 29 → to_be_bytes w32 n ≡ four_bytes n
+unfolding four_bytes
+name-bytes n h =
+    let a : n / 2 ^ 24 % 2 ^ 8 ≡ n / 2 ^ 24 = mod-eq_of_lt (omega arith) in
+    ap (λ (b : ℕ). b ∷ n / 2 ^ 16 % 2 ^ 8 ∷ n / 2 ^ 8 % 2 ^ 8 ∷ n % 2 ^ 8 ∷ []) a
+
 pub length-millis : (m : ℕ) → length (millis m) ≡ 6
 unfolding millis
 length-millis m = refl
@@ -95,9 +103,9 @@ module _ {before after : List ℕ} {end : ℕ} (stamp : ℕ) where
         → Puts text at (millis (stamp % 1000)) m b → PutsIfFits b m (41 ∷ 32 ∷ 99 ∷ 97 ∷ 110 ∷ 48 ∷ 32 ∷ []) end after → PutSoFar before (to_name stamp) end after 26
     put-stamp s p q = so-far-fits 7 26 (omega arith) (so-far-put 6 33 (le_of_eq (length-millis _)) s p) q
 
-    pub put-name : (identifier : ℕ) → PutSoFar before (to_name stamp) at text 26
-        → Puts text at (hexes (four_bytes identifier)) m b → PutsIfFits b m (35 ∷ []) end after → PutSoFar before (to_data identifier stamp) end after 17
-    put-name identifier s p q = so-far-fits 1 17 (omega arith) (so-far-put 8 18 (le_of_eq (length-name identifier)) s p) q
+    pub put-name : (identifier : ℕ) {name : List ℕ} → name ≡ four_bytes identifier → PutSoFar before (to_name stamp) at text 26
+        → Puts text at (hexes name) m b → PutsIfFits b m (35 ∷ []) end after → PutSoFar before (to_data identifier stamp) end after 17
+    put-name identifier e s p q = so-far-fits 1 17 (omega arith) (so-far-put 8 18 (le_of_eq (length-name identifier)) s (puts-as p (ap hexes e))) q
 
     pub put-data : (identifier : ℕ) (bytes : List ℕ) → length bytes ≤ 8 → PutSoFar before (to_data identifier stamp) at text 17
         → Puts text at (hexes bytes) m b → PutsIfFits b m newline end after → Puts before 0 (line_text identifier bytes stamp ++ newline) end after
@@ -108,20 +116,20 @@ module _ {before after : List ℕ} {end : ℕ} (stamp : ℕ) where
 
 -- ---- the three outcomes
 module _ (identifier : ℕ) (bytes : List ℕ) (stamp : ℕ) (before : List ℕ) where
-  pub write-2 : 2 ^ 29 ≤ identifier → (Refused (refusal 2) ≡ line_written identifier bytes stamp) × (before ≡ text_after identifier bytes stamp before)
+  pub write-2 : 2 ^ 29 ≤ identifier → (Err (refusal 2) ≡ line_written identifier bytes stamp) × (before ≡ text_after identifier bytes stamp before)
   unfolding line_written text_after
   write-2 h = let large = le-leb _ _ h in (taken _ large refl, taken _ large refl)
 
   module _ (range : identifier < 2 ^ 29) where
-    pub write-3 : 8 < length bytes → (Refused (refusal 3) ≡ line_written identifier bytes stamp) × (before ≡ text_after identifier bytes stamp before)
+    pub write-3 : 8 < length bytes → (Err (refusal 3) ≡ line_written identifier bytes stamp) × (before ≡ text_after identifier bytes stamp before)
     unfolding line_written text_after
     write-3 h = let small = lt-leb _ _ range in let many = lt-ltb _ _ h in (passed _ small (taken _ many refl), passed _ small (taken _ many refl))
 
     pub write-whole : {end : ℕ} {after : List ℕ} → length bytes ≤ 8 → Puts before 0 (line_text identifier bytes stamp ++ newline) end after
-        → (Written end ≡ line_written identifier bytes stamp) × (after ≡ text_after identifier bytes stamp before)
+        → (Ok end ≡ line_written identifier bytes stamp) × (after ≡ text_after identifier bytes stamp before)
     unfolding line_written text_after
     write-whole {end} h p =
         let small = lt-leb _ _ range in
         let few = le-ltb _ _ h in
         let e : end ≡ length (line_text identifier bytes stamp ++ newline) = omega (arith, p.ends) in
-        (passed _ small (passed _ few (ap Written e)), passed _ small (passed _ few p.holds))
+        (passed _ small (passed _ few (ap Ok e)), passed _ small (passed _ few p.holds))

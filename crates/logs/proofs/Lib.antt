@@ -4,11 +4,11 @@ pub mod LawsFound
 pub mod LawsPairs
 pub mod LawsWritten
 pub mod WrittenLines
-pub mod LawsScans
 pub mod LawsLines
-pub mod LawsFronts
+pub mod LawsScans
 pub mod LawsForms
 pub mod LawsBegins
 pub mod ReadLines
+pub mod LawsFronts
 pub mod RoundTrip
 pub mod Worked

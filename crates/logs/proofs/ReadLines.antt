@@ -9,15 +9,14 @@ use borrow.Author.Tests.{eq-eqb, ne_eqb, eqb-true, eqb-false, ltb-true, ltb-fals
 use lib.Dec.{eqb, leb, ltb}
 use lib.ListN.{length, get_or, take}
 use lib.Seq.{take-length}
+use Rattle.std.specs.Prelude.{None, Ok, Err}
 use Rattle.identifiers.specs.Refusals.{refusal}
 use Rattle.identifiers.proofs.LawsChoice.{pick_true, pick-false}
 use Rattle.text.specs.Digits.{is_digit}
 use Rattle.text.proofs.LawsValue.{none_below}
 use Rattle.logs.specs.Grammar.{Formed, stamp_of, number_of_name, bytes_of}
-use Rattle.logs.specs.Outcomes.{without, frame_said, Outcome, malformed, three_digits, too_large, stamped}
+use Rattle.logs.specs.Outcomes.{LineRead, frame_said, Outcome, malformed, three_digits, too_large, stamped}
 use Rattle.logs.specs.Lines.{is_three, end_at, begins, line_stamp, line_number, said, line_read}
-use Rattle.logs.specs.declared.answer.LineAnswer.TheVariants.{PassedOver, Refused}
-use Rattle.logs.specs.declared.answer.LogFrame.{LogFrame}
 use Rattle.logs.proofs.LawsLines.{line-whole, line-not, line-more, line-long}
 use Rattle.logs.proofs.LawsForms.{Form, three-is, seconds-are, micros-are, blanks-are, interface-is, name-is, bytes-are, end-length, form-begins, line-form, digits_are}
 use Rattle.logs.proofs.LawsBegins.{begins-line}
@@ -35,7 +34,7 @@ module _ {t seconds micros blanks interface name digits tail : List ℕ} (f : Fo
   unfolding line_stamp
   stamp-is = rw (seconds-are f, micros-are f)
 
-  pub said-over : length name ≡ 3 → said t ≡ without PassedOver
+  pub said-over : length name ≡ 3 → said t ≡ Ok None
   unfolding said
   said-over h = pick_true _ _ (three-is f ∙ eq-eqb _ _ h)
 
@@ -43,7 +42,7 @@ module _ {t seconds micros blanks interface name digits tail : List ℕ} (f : Fo
     not_three : is_three t ≡ false
     not_three = let n : length name ≡ 3 → ⊥ = λ q. omega arith in three-is f ∙ ne_eqb _ _ n
 
-    pub said-2 : 2 ^ 29 ≤ number_of_name name → said t ≡ without (Refused (refusal 2))
+    pub said-2 : 2 ^ 29 ≤ number_of_name name → said t ≡ Err (refusal 2)
     unfolding said
     said-2 g = pick-false _ _ not_three ∙ pick_true _ _ (ap (leb (2 ^ 29)) number_is ∙ le-leb _ _ g)
 
@@ -61,10 +60,10 @@ formed-read {l} a =
     let n : end_at l ≡ length l = omega (arith, end-length f no_byte) in
     line-whole l (form-begins f) n (omega (arith, n, a.is.short))
 
-pub line-over : {l : List ℕ} (a : Formed l) → length a.name ≡ 3 → line_read l ≡ without PassedOver
+pub line-over : {l : List ℕ} (a : Formed l) → length a.name ≡ 3 → line_read l ≡ Ok None
 line-over a h = formed-read a ∙ said-over (own-form a) no_byte h
 
-pub line-2 : {l : List ℕ} (a : Formed l) → length a.name ≡ 8 → 2 ^ 29 ≤ number_of_name a.name → line_read l ≡ without (Refused (refusal 2))
+pub line-2 : {l : List ℕ} (a : Formed l) → length a.name ≡ 8 → 2 ^ 29 ≤ number_of_name a.name → line_read l ≡ Err (refusal 2)
 line-2 a h g = formed-read a ∙ said-2 (own-form a) no_byte h g
 
 pub line_frame : {l : List ℕ} (a : Formed l) → length a.name ≡ 8 → number_of_name a.name < 2 ^ 29
@@ -98,24 +97,24 @@ has-form : (l : List ℕ) → begins l ≡ true → end_at l ≡ length l → le
 has-form l e n h = subst Formed (ap (λ (k : ℕ). take k l) n ∙ take-length l) (begins-line l e (omega arith))
 
 -- a line without the form is malformed
-pub line-25 : (l : List ℕ) → (Formed l → ⊥) → line_read l ≡ without (Refused (refusal 25))
+pub line-25 : (l : List ℕ) → (Formed l → ⊥) → line_read l ≡ Err (refusal 25)
 line-25 l none = by-start (begins l) refl
   where
-    by_length : begins l ≡ true → end_at l ≡ length l → (t : Bool) → ltb 255 (length l) ≡ t → line_read l ≡ without (Refused (refusal 25))
+    by_length : begins l ≡ true → end_at l ≡ length l → (t : Bool) → ltb 255 (length l) ≡ t → line_read l ≡ Err (refusal 25)
     by_length e n true q = line-long l (ltb-true _ _ q)
     by_length e n false q = absurd (none (has-form l e n (ltb-false _ _ q)))
 
-    by_end : begins l ≡ true → (t : Bool) → eqb (end_at l) (length l) ≡ t → line_read l ≡ without (Refused (refusal 25))
+    by_end : begins l ≡ true → (t : Bool) → eqb (end_at l) (length l) ≡ t → line_read l ≡ Err (refusal 25)
     by_end e true q = by_length e (eqb-true _ _ q) (ltb 255 (length l)) refl
     by_end e false q = line-more l (eqb-false _ _ q)
 
-    by-start : (t : Bool) → begins l ≡ t → line_read l ≡ without (Refused (refusal 25))
+    by-start : (t : Bool) → begins l ≡ t → line_read l ≡ Err (refusal 25)
     by-start true e = by_end e (eqb (end_at l) (length l)) refl
     by-start false e = line-not l e
 
 -- ---- the outcome
 -- "every line has one reading or none": what is read is the outcome,
-outcome-read : (l : List ℕ) {f : LogFrame} → Outcome l f → line_read l ≡ f
+outcome-read : (l : List ℕ) {f : LineRead} → Outcome l f → line_read l ≡ f
 outcome-read l (malformed none) = line-25 l none
 outcome-read l (three_digits a h) = line-over a h
 outcome-read l (too_large a h g) = line-2 a h g
@@ -125,7 +124,7 @@ outcome-read l (stamped a h g) = line_frame a h g
 pub some-outcome : (l : List ℕ) → Outcome l (line_read l)
 some-outcome l = by-start (begins l) refl
   where
-    read_as : {f : LogFrame} → Outcome l f → Outcome l (line_read l)
+    read_as : {f : LineRead} → Outcome l f → Outcome l (line_read l)
     read_as {f} o = subst (Outcome l) (sym (outcome-read l o)) o
 
     by_number : (a : Formed l) → length a.name ≡ 8 → (t : Bool) → ltb (number_of_name a.name) (2 ^ 29) ≡ t → Outcome l (line_read l)
@@ -147,9 +146,9 @@ some-outcome l = by-start (begins l) refl
     by-start true e = by_end e (eqb (end_at l) (length l)) refl
     by-start false e = read_as (malformed (λ a. false≢true (sym e ∙ form-begins (own-form a))))
 
-pub read-exactly : (l : List ℕ) (f : LogFrame) → Outcome l f ↔ line_read l ≡ f
+pub read-exactly : (l : List ℕ) (f : LineRead) → Outcome l f ↔ line_read l ≡ f
 read-exactly l f = (outcome-read l, λ e. subst (Outcome l) e (some-outcome l))
 
 -- no line has two outcomes
-pub one-outcome : (l : List ℕ) (f g : LogFrame) → Outcome l f → Outcome l g → f ≡ g
+pub one-outcome : (l : List ℕ) (f g : LineRead) → Outcome l f → Outcome l g → f ≡ g
 one-outcome l f g o p = sym (outcome-read l o) ∙ outcome-read l p

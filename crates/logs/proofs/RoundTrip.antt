@@ -1,20 +1,20 @@
 -- Written and read: the line of a frame is read as that frame, and every frame that is read can be written.
-use mathlib.Core.Path.{◌≡◌, ◌∙◌}
+use mathlib.Core.Path.{◌≡◌, ◌∙◌, subst}
 use mathlib.Core.List.{List, [], ◌∷◌}
 use Prim.Native.Nat.{ℕ, ◌+◌, ◌*◌, ◌^◌, ◌≤◌, ◌<◌}
 use native.Mathlib.Omega.{arith}
 use borrow.Author.Tests.{lt-ltb}
 use lib.ListN.{length, take}
 use lib.Seq.{take-append_seam}
+use Rattle.std.specs.Prelude.{Some, Ok}
 use Rattle.text.specs.Digits.{digit_value, is_digit}
 use Rattle.text.proofs.LawsValue.{digit-below}
-use Rattle.logs.specs.Grammar.{Each, Formed, stamp_of, bytes_of}
+use Rattle.logs.specs.Grammar.{Each, Formed, stamp_of, number_of_name, bytes_of}
 use Rattle.logs.specs.Grammar.Each.{none, one}
-use Rattle.logs.specs.Outcomes.{eight, without, frame_said, Outcome, malformed, three_digits, too_large, stamped}
+use Rattle.logs.specs.Outcomes.{LineRead, eight, data_bytes, frame_said, Outcome, malformed, three_digits, too_large, stamped}
 use Rattle.logs.specs.Lines.{line_read}
 use Rattle.logs.specs.Fronts.{in_line}
 use Rattle.logs.specs.Written.{line_text}
-use Rattle.logs.specs.declared.answer.LineAnswer.TheVariants.{Frame}
 use Rattle.logs.specs.declared.answer.LogFrame.{LogFrame}
 use Rattle.logs.proofs.LawsWritten.{length-name}
 use Rattle.logs.proofs.WrittenLines.{is_byte, written-form, stamp-back, number-back, bytes_back}
@@ -55,23 +55,25 @@ stamp-small seconds micros = omega arith
 
 pub record CanBeWritten (f : LogFrame) : Type 0 where
   pub range : f.identifier < 2 ^ 29
-  pub few : f.length ≤ 8
-  pub each : Each is_byte (take f.length f.«data»)
+  pub few : f.«data».count ≤ 8
+  pub each : Each is_byte (take f.«data».count f.«data».bytes)
   pub small : f.stamp < 2 ^ 32
 
-pub frame-writable : (l : List ℕ) → (line_read l).answer ≡ Frame → CanBeWritten (line_read l)
-unfolding without
-frame-writable l e = by-outcome (some-outcome l) e
+pub frame-writable : (l : List ℕ) (f : LogFrame) → line_read l ≡ Ok (Some f) → CanBeWritten f
+frame-writable l f e = by-outcome (some-outcome l) e
   where
-    by-outcome : {f : LogFrame} → Outcome l f → f.answer ≡ Frame → CanBeWritten f
-    by-outcome (malformed no-form) q = let z : ◌≡◌ {A = ℕ} 0 1 = cc in absurd (omega arith)
-    by-outcome (three_digits a h) q = let z : ◌≡◌ {A = ℕ} 0 1 = cc in absurd (omega arith)
-    by-outcome (too_large a h g) q = let z : ◌≡◌ {A = ℕ} 0 1 = cc in absurd (omega arith)
+    by-outcome : {r : LineRead} → Outcome l r → r ≡ Ok (Some f) → CanBeWritten f
+    by-outcome (malformed no-form) q = cc
+    by-outcome (three_digits a h) q = cc
+    by-outcome (too_large a h g) q = cc
     by-outcome (stamped a h g) q =
         let m = a.is.made in
+        let w : CanBeWritten (record { identifier = number_of_name a.name; stamp = stamp_of a.seconds a.micros; «data» = data_bytes (bytes_of a.digits) }) =
         record {
           range = g;
           few = omega (arith, bytes-length a.digits m.data_even, m.data_few);
           each = rw (eight-back (bytes_of a.digits)) (bytes_small a.digits m.data_digits);
           small = stamp-small a.seconds a.micros;
-        }
+        } in
+        let same : record { identifier = number_of_name a.name; stamp = stamp_of a.seconds a.micros; «data» = data_bytes (bytes_of a.digits) } ≡ f = cc in
+        subst CanBeWritten same w

@@ -3,17 +3,17 @@ use mathlib.Core.Path.{◌≡◌, refl, sym}
 use mathlib.Core.List.{List, [], ◌∷◌}
 use Prim.Native.Nat.{ℕ}
 use native.Mathlib.Omega.{arith}
+use Rattle.std.specs.Prelude.{Some, None, Ok, Err}
 use Rattle.identifiers.specs.Choice.{pick, both}
 use Rattle.identifiers.specs.Refusals.{refusal}
 use Rattle.text.specs.Digits.{decimal_in, decimal, hex_digit, hex, between, digit_value, is_digit, value_from}
 use Rattle.text.specs.Reading.{all_digits}
 use Rattle.text.proofs.LawsDigits.{decimal-in, decimal-one}
 use Rattle.logs.specs.Grammar.{stamp_of, number_of_name}
-use Rattle.logs.specs.Outcomes.{eight, without, frame_said}
+use Rattle.logs.specs.Outcomes.{eight, frame_said}
 use Rattle.logs.specs.Parts.{run_length, end_of, part, digits_in, pairs_from}
 use Rattle.logs.specs.Lines.{dot_at, interface_at, gap_at, is_three, mark_at, line_bytes, end_at, timed, parted, named, begins, line_stamp, line_number, said, line_read}
 use Rattle.logs.specs.Written.{hexes, millis, four_bytes, line_text}
-use Rattle.logs.specs.declared.answer.LineAnswer.TheVariants.{Frame, PassedOver, Refused}
 
 -- (12.003000) can0 18CEC9EB#05023E00
 abbrev pub request : List ℕ
@@ -73,7 +73,7 @@ five-places = 40 ∷ 49 ∷ 46 ∷ 48 ∷ 48 ∷ 48 ∷ 48 ∷ 48 ∷ 41 ∷ 32 
 
 pub record Worked : Type 0 where
   -- document 02's line
-  pub request-read : line_read request ≡ record { answer = Frame; identifier = 0x18CEC9EB; stamp = 12003; length = 4; «data» = 0x05 ∷ 0x02 ∷ 0x3E ∷ 0x00 ∷ 0 ∷ 0 ∷ 0 ∷ 0 ∷ [] }
+  pub request-read : line_read request ≡ Ok (Some (record { identifier = 0x18CEC9EB; stamp = 12003; «data» = record { count = 4; bytes = 0x05 ∷ 0x02 ∷ 0x3E ∷ 0x00 ∷ 0 ∷ 0 ∷ 0 ∷ 0 ∷ [] } }))
   -- the stamp runs round
   pub around-read : line_read around ≡ frame_said 0x18CEC9EB 0 []
   -- the last stamp before it does, and microseconds rounded down
@@ -81,25 +81,25 @@ pub record Worked : Type 0 where
   -- two blanks, small letters, the largest identifier
   pub long-ago-read : line_read long-ago ≡ frame_said 0x1FFFFFFF 1989975385 (0x0A ∷ 0x0B ∷ [])
   -- passed over
-  pub three-digits-read : line_read three_digits ≡ without PassedOver
+  pub three-digits-read : line_read three_digits ≡ Ok None
   -- 2
-  pub large-read : line_read large ≡ without (Refused (refusal 2))
+  pub large-read : line_read large ≡ Err (refusal 2)
   -- 25: a remote frame
-  pub remote-read : line_read remote ≡ without (Refused (refusal 25))
+  pub remote-read : line_read remote ≡ Err (refusal 25)
   -- 25: CAN FD
-  pub flexible-read : line_read flexible ≡ without (Refused (refusal 25))
+  pub flexible-read : line_read flexible ≡ Err (refusal 25)
   -- 25: nine bytes
-  pub nine-bytes-read : line_read nine-bytes ≡ without (Refused (refusal 25))
+  pub nine-bytes-read : line_read nine-bytes ≡ Err (refusal 25)
   -- 25: an odd digit
-  pub odd-read : line_read odd ≡ without (Refused (refusal 25))
+  pub odd-read : line_read odd ≡ Err (refusal 25)
   -- 25 before 2
-  pub malformed-and-large-read : line_read malformed-and-large ≡ without (Refused (refusal 25))
+  pub malformed-and-large-read : line_read malformed-and-large ≡ Err (refusal 25)
   -- 25: a direction behind the data
-  pub direction-read : line_read direction ≡ without (Refused (refusal 25))
+  pub direction-read : line_read direction ≡ Err (refusal 25)
   -- 25: no blank
-  pub no-blank-read : line_read no-blank ≡ without (Refused (refusal 25))
+  pub no-blank-read : line_read no-blank ≡ Err (refusal 25)
   -- 25: five digits of microseconds
-  pub five-places-read : line_read five-places ≡ without (Refused (refusal 25))
+  pub five-places-read : line_read five-places ≡ Err (refusal 25)
   -- written: (4294967.295000) can0 18CEC9EB#05FF and (0.000000) can0 00000000#
   pub last-stamp : line_text 0x18CEC9EB (0x05 ∷ 0xFF ∷ []) 4294967295 ≡ 40 ∷ 52 ∷ 50 ∷ 57 ∷ 52 ∷ 57 ∷ 54 ∷ 55 ∷ 46 ∷ 50 ∷ 57 ∷ 53 ∷ 48 ∷ 48 ∷ 48 ∷ 41 ∷ 32 ∷ 99 ∷ 97 ∷ 110 ∷ 48 ∷ 32 ∷ 49 ∷ 56 ∷ 67 ∷ 69 ∷ 67 ∷ 57 ∷ 69 ∷ 66 ∷ 35 ∷ 48 ∷ 53 ∷ 70 ∷ 70 ∷ []
   pub first-stamp : line_text 0 [] 0 ≡ 40 ∷ 48 ∷ 46 ∷ 48 ∷ 48 ∷ 48 ∷ 48 ∷ 48 ∷ 48 ∷ 41 ∷ 32 ∷ 99 ∷ 97 ∷ 110 ∷ 48 ∷ 32 ∷ 48 ∷ 48 ∷ 48 ∷ 48 ∷ 48 ∷ 48 ∷ 48 ∷ 48 ∷ 35 ∷ []
@@ -113,7 +113,7 @@ one-digit : decimal 0 ≡ 48 ∷ []
 one-digit = decimal-one 0 (omega arith)
 
 pub worked : Worked
-unfolding pick both hex_digit hex between digit_value is_digit value_from all_digits stamp_of number_of_name eight without run_length end_of part digits_in pairs_from
+unfolding pick both hex_digit hex between digit_value is_digit value_from all_digits stamp_of number_of_name eight run_length end_of part digits_in pairs_from
     dot_at interface_at gap_at is_three mark_at line_bytes end_at timed parted named begins line_stamp line_number said line_read hexes millis four_bytes line_text
 worked = record {
   request-read = refl;

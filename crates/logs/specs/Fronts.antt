@@ -1,11 +1,8 @@
 -- The line at the front of a text: up to the first newline, where there is one.
-use Rattle.std.specs.Prelude.{Bool, true, false, not, List, ℕ, ◌+◌, eqb, ltb, length, take}
+use Rattle.std.specs.Prelude.{Bool, not, List, ℕ, ◌+◌, eqb, ltb, length, take, Option, Some, None}
 use Rattle.identifiers.specs.Choice.{pick}
-use Rattle.identifiers.specs.Refusals.{refusal}
 use Rattle.logs.specs.Parts.{run_length}
-use Rattle.logs.specs.Outcomes.{without}
 use Rattle.logs.specs.Lines.{line_read}
-use Rattle.logs.specs.declared.answer.LineAnswer.TheVariants.{Refused}
 use Rattle.logs.specs.declared.read.Front.{Front}
 
 -- a byte that ends no line
@@ -17,7 +14,5 @@ unfoldable pub front_end : List ℕ → ℕ
 front_end t = run_length in_line t
 
 -- a line that a newline ends is read, and the next one begins behind it; one that has only begun is not read
-unfoldable pub front_read : List ℕ → Front
-front_read t =
-    pick (ltb (front_end t) (length t)) (record { ended = true; next = front_end t + 1; frame = line_read (take (front_end t) t) })
-    (record { ended = false; next = 0; frame = without (Refused (refusal 25)) })
+unfoldable pub front_read : List ℕ → Option Front
+front_read t = pick (ltb (front_end t) (length t)) (Some (record { next = front_end t + 1; line = line_read (take (front_end t) t) })) None

@@ -1,13 +1,11 @@
 -- One line of a log read (document 02, 2026-02): the places of its parts, from the left, and what is answered.
-use Rattle.std.specs.Prelude.{Bool, List, ℕ, ◌+◌, ◌*◌, ◌^◌, leb, ltb, eqb, length, get_or}
+use Rattle.std.specs.Prelude.{Bool, List, ℕ, ◌+◌, ◌*◌, ◌^◌, leb, ltb, eqb, length, get_or, None, Ok, Err}
 use Rattle.identifiers.specs.Choice.{pick, both}
 use Rattle.identifiers.specs.Refusals.{refusal}
 use Rattle.text.specs.Digits.{between, is_digit}
 use Rattle.logs.specs.Grammar.{stamp_of, number_of_name}
-use Rattle.logs.specs.Outcomes.{without, frame_said}
+use Rattle.logs.specs.Outcomes.{LineRead, frame_said}
 use Rattle.logs.specs.Parts.{end_of, part, digits_in, pairs_from}
-use Rattle.logs.specs.declared.answer.LineAnswer.TheVariants.{PassedOver, Refused}
-use Rattle.logs.specs.declared.answer.LogFrame.{LogFrame}
 
 -- ---- the places: the dot, the interface, the blank behind it, the mark, the end. The bracket stands seven behind the dot
 unfoldable pub dot_at : List ℕ → ℕ
@@ -57,11 +55,11 @@ line_number l = number_of_name (part l (gap_at l + 1) (mark_at l))
 
 -- ---- what is answered
 -- "Lines with three-digit identifiers are counted and passed over"; "then 2 for an identifier too large"
-unfoldable pub said : List ℕ → LogFrame
+unfoldable pub said : List ℕ → LineRead
 said l =
-    pick (is_three l) (without PassedOver)
-    (pick (leb (2 ^ 29) (line_number l)) (without (Refused (refusal 2))) (frame_said (line_number l) (line_stamp l) (line_bytes l)))
+    pick (is_three l) (Ok None)
+    (pick (leb (2 ^ 29) (line_number l)) (Err (refusal 2)) (frame_said (line_number l) (line_stamp l) (line_bytes l)))
 
 -- "25 malformed line, more than 8 data bytes included": the parts are the whole line, of at most 255 bytes
-unfoldable pub line_read : List ℕ → LogFrame
-line_read l = pick (both (begins l) (both (eqb (end_at l) (length l)) (leb (end_at l) 255))) (said l) (without (Refused (refusal 25)))
+unfoldable pub line_read : List ℕ → LineRead
+line_read l = pick (both (begins l) (both (eqb (end_at l) (length l)) (leb (end_at l) 255))) (said l) (Err (refusal 25))

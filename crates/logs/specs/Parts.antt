@@ -1,9 +1,8 @@
 -- Parts of a text, found from the left: bytes of a kind in a row, digits between two places, pairs of digits.
-use Rattle.std.specs.Prelude.{◌≡◌, Bool, List, [], ◌∷◌, ℕ, zero, suc, ◌+◌, ◌*◌, ◌%◌, ◌^◌, leb, length, get_or, take, drop}
+use Rattle.std.specs.Prelude.{Bool, List, [], ◌∷◌, ℕ, zero, suc, ◌+◌, ◌*◌, ◌%◌, ◌^◌, leb, length, get_or, take, drop, Option, Some, None, ◌≡◌}
 use Rattle.identifiers.specs.Choice.{pick, both}
 use Rattle.text.specs.Digits.{digit_value, is_digit, value_from}
 use Rattle.text.specs.Reading.{all_digits}
-use Rattle.logs.specs.Outcomes.{eight}
 
 -- how many bytes at the front have p
 unfoldable pub run_length : (ℕ → Bool) → List ℕ → ℕ
@@ -39,12 +38,6 @@ pub record Ran (l : List ℕ) (from end value : ℕ) : Type 0 where
   pub ends : end ≡ end_of (is_digit 10) l from
   pub says : value ≡ value_from 10 0 (part l from end) % 2 ^ 32
 
--- digits between two places: whether they stand there, and what they say modulo 2^32, 0 where the text is too short
-pub record DigitsFound (base : ℕ) (l : List ℕ) (from to : ℕ) (good : Bool) (value : ℕ) : Type 0 where
-  pub goods : good ≡ digits_in base l from to
-  pub says : value ≡ pick (leb to (length l)) (value_from base 0 (part l from to) % 2 ^ 32) 0
-
--- pairs of digits from a place on: how many bytes, and they in eight places
-pub record Paired (l : List ℕ) (from count : ℕ) («data» : List ℕ) : Type 0 where
-  pub counts : count ≡ length (pairs_from 8 l from)
-  pub bytes : «data» ≡ eight (pairs_from 8 l from)
+-- what the digits between two places say modulo 2^32, where digits stand there
+unfoldable pub digits_said : ℕ → List ℕ → ℕ → ℕ → Option ℕ
+digits_said base l from to = pick (digits_in base l from to) (Some (value_from base 0 (part l from to) % 2 ^ 32)) None

@@ -1,11 +1,10 @@
 -- A frame written as a line of a log (document 02, 2026-02): `(S.mmm000) can0 ID#DATA` and a newline.
-use Rattle.std.specs.Prelude.{List, [], ◌∷◌, ◌++◌, ℕ, ◌+◌, ◌/◌, ◌%◌, ◌^◌, leb, ltb, length}
+use Rattle.std.specs.Prelude.{List, [], ◌∷◌, ◌++◌, ℕ, ◌+◌, ◌/◌, ◌%◌, ◌^◌, leb, ltb, length, Result, Ok, Err}
 use Rattle.identifiers.specs.Bytes.{written}
 use Rattle.identifiers.specs.Choice.{pick}
 use Rattle.identifiers.specs.Refusals.{refusal, number_of}
 use Rattle.text.specs.Digits.{decimal, hex, newline}
-use Rattle.logs.specs.declared.answer.LineWritten.{LineWritten}
-use Rattle.logs.specs.declared.answer.LineWritten.TheVariants.{Written, Refused}
+use Rattle.identifiers.specs.declared.refusal.Refusal.{Refusal}
 use Rattle.logs.specs.declared.answer.LogLineTold.{LogLineTold}
 
 -- bytes in a row, two capital hexadecimal digits each
@@ -31,15 +30,15 @@ line_text identifier bytes stamp =
     40 ∷ (decimal (stamp / 1000) ++ (46 ∷ (millis (stamp % 1000) ++ (41 ∷ ((32 ∷ []) ++ (can0 ++ (32 ∷ (hexes (four_bytes identifier) ++ (35 ∷ hexes bytes)))))))))
 
 -- "export refuses by 2 and 3"; else how many bytes the line has with its newline, and it stands at the start of the lent text
-unfoldable pub line_written : ℕ → List ℕ → ℕ → LineWritten
+unfoldable pub line_written : ℕ → List ℕ → ℕ → Result ℕ Refusal
 line_written identifier bytes stamp =
-    pick (leb (2 ^ 29) identifier) (Refused (refusal 2)) (pick (ltb 8 (length bytes)) (Refused (refusal 3)) (Written (length (line_text identifier bytes stamp ++ newline))))
+    pick (leb (2 ^ 29) identifier) (Err (refusal 2)) (pick (ltb 8 (length bytes)) (Err (refusal 3)) (Ok (length (line_text identifier bytes stamp ++ newline))))
 
 unfoldable pub text_after : ℕ → List ℕ → ℕ → List ℕ → List ℕ
 text_after identifier bytes stamp before =
     pick (leb (2 ^ 29) identifier) before (pick (ltb 8 (length bytes)) before (written before 0 (line_text identifier bytes stamp ++ newline)))
 
 -- the answer in numbers
-unfoldable pub line_told : LineWritten → LogLineTold
-line_told (Written count) = record { refusal = 0; length = count }
-line_told (Refused why) = record { refusal = number_of why; length = 0 }
+abbrev pub line_told : Result ℕ Refusal → LogLineTold
+line_told (Ok count) = record { refusal = 0; length = count }
+line_told (Err why) = record { refusal = number_of why; length = 0 }

@@ -1,5 +1,5 @@
-// What a line is read as, and what writing one answers.
-ghost use Rattle.std.specs.Prelude.{◌≡◌, length, take};
+// What a line is read as, and the answers of reading and writing one in numbers.
+ghost use Rattle.std.specs.Prelude.{◌≡◌, take};
 ghost use Rattle.identifiers.specs.Bytes.{written};
 ghost use Rattle.logs.specs.Outcomes.{frame_told};
 ghost use Rattle.logs.specs.Written.{line_told};
@@ -7,24 +7,24 @@ ghost use Rattle.logs.specs.Written.{line_told};
 use identifiers::Refusal;
 use text::put;
 
-#[derive(Clone, Copy)]
-pub enum LineAnswer {
-    Frame,
-    PassedOver,
-    Refused(Refusal),
+// Identifiers have 29 bits.
+pub const TOO_LARGE: u32 = 1 << 29;
+
+// The data bytes of a frame: the first `count` of the array, and 0 behind them. A count beside an array: there is no heap.
+#[derive(Debug, Clone, Copy, PartialEq, Eq)]
+pub struct DataBytes {
+    pub count: u8,
+    pub bytes: [u8; 8],
 }
 
-// The data bytes stand in the first `length` places, and 0 behind them. Without a frame all numbers are 0.
-#[derive(Clone, Copy)]
+#[derive(Debug, Clone, Copy, PartialEq, Eq)]
 pub struct LogFrame {
-    pub answer: LineAnswer,
     pub identifier: u32,
     pub stamp: u32,
-    pub length: u8,
-    pub data: [u8; 8],
+    pub data: DataBytes,
 }
 
-// The answer in numbers: the refusal, 0 for none.
+// What a line is read as, in numbers: the refusal, 0 for none; without a frame its numbers are 0.
 #[repr(C)]
 #[derive(Clone, Copy)]
 pub struct LogFrameTold {
@@ -35,13 +35,7 @@ pub struct LogFrameTold {
     pub stamp: u32,
 }
 
-// How many bytes the line has, its newline among them, or the refusal.
-#[derive(Clone, Copy)]
-pub enum LineWritten {
-    Written(u8),
-    Refused(Refusal),
-}
-
+// The refusal, 0 for none, and how many bytes the line has.
 #[repr(C)]
 #[derive(Clone, Copy)]
 pub struct LogLineTold {
@@ -49,56 +43,45 @@ pub struct LogLineTold {
     pub length: u8,
 }
 
-// An array for a frame's data has as many bytes as its type says.
-fn room(data: &[u8; 8]) -> usize
-    ensures { (result ≡ 8) × (length «data».now ≡ 8) }
-{
-    let bytes: &[u8] = data;
-    bytes.len()
-}
-
-// Puts the first bytes of a frame's eight at the start of a lent array.
+// Puts the first bytes of a frame's eight at the start of a lent array. Bytes and count are promised apart, and the count bounded by nobody.
 pub fn put_data(bytes: &[u8; 8], count: u8, data: &mut [u8; 8])
     ensures { «data».new ≡ written «data».old 0 (take count bytes.now) }
 {
-    let all: &[u8] = bytes;
-    let mut end = count as usize;
-    if room(bytes) < end {
-        end = all.len();
-    }
-    room(data);
-    put(data, 0, &all[..end]);
+    let end = (count as usize).min(8);
+    put(data, 0, &bytes[..end]);
 }
 
-impl LogFrame {
-    pub fn told(self) -> LogFrameTold
-        ensures { result ≡ frame_told self }
-    {
-        let answer = self.answer;
-        let mut refusal = 0;
-        let mut passed_over = false;
-        match answer {
-            LineAnswer::Frame => {}
-            LineAnswer::PassedOver => passed_over = true,
-            LineAnswer::Refused(why) => refusal = why.number(),
+impl From<Result<Option<LogFrame>, Refusal>> for LogFrameTold {
+    ghost from_gives = { λ r t. t ≡ frame_told r };
+
+    fn from(line: Result<Option<LogFrame>, Refusal>) -> LogFrameTold {
+        let mut told = LogFrameTold {
+            refusal: 0,
+            passed_over: false,
+            length: 0,
+            identifier: 0,
+            stamp: 0,
+        };
+        match line {
+            Ok(Some(frame)) => {
+                told.length = frame.data.count;
+                told.identifier = frame.identifier;
+                told.stamp = frame.stamp;
+            }
+            Ok(None) => told.passed_over = true,
+            Err(why) => told.refusal = why.number(),
         }
-        LogFrameTold {
-            refusal,
-            passed_over,
-            length: self.length,
-            identifier: self.identifier,
-            stamp: self.stamp,
-        }
+        told
     }
 }
 
-impl LineWritten {
-    pub fn told(self) -> LogLineTold
-        ensures { result ≡ line_told self }
-    {
-        match self {
-            LineWritten::Written(length) => LogLineTold { refusal: 0, length },
-            LineWritten::Refused(why) => LogLineTold {
+impl From<Result<u8, Refusal>> for LogLineTold {
+    ghost from_gives = { λ r t. t ≡ line_told r };
+
+    fn from(line: Result<u8, Refusal>) -> LogLineTold {
+        match line {
+            Ok(length) => LogLineTold { refusal: 0, length },
+            Err(why) => LogLineTold {
                 refusal: why.number(),
                 length: 0,
             },

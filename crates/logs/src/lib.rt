@@ -7,6 +7,6 @@ mod read;
 mod scan;
 mod write;
 
-pub use answer::{LineAnswer, LineWritten, LogFrame, LogFrameTold, LogLineTold, put_data};
+pub use answer::{DataBytes, LogFrame, LogFrameTold, LogLineTold, put_data};
 pub use read::{Front, read_front, read_line};
 pub use write::{TEXT, write_line};

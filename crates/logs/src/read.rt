@@ -1,104 +1,54 @@
 // A line of a log read: one that is given without its newline, and the one at the front of a text.
-ghost use Rattle.std.specs.Prelude.{◌≡◌};
-ghost use Rattle.logs.specs.Outcomes.{without};
+ghost use Rattle.std.specs.Prelude.{◌≡◌, ◌==◌, position};
 ghost use Rattle.logs.specs.Lines.{line_read};
-ghost use Rattle.logs.specs.Fronts.{front_end, front_read};
-ghost use Rattle.logs.specs.Scans.{answer_of};
+ghost use Rattle.logs.specs.Fronts.{front_read};
 
-use crate::answer::{LineAnswer, LogFrame};
+use crate::answer::LogFrame;
 use crate::parts::byte_at;
-use crate::scan::{Scanned, scan};
+use crate::scan::scan;
 use identifiers::Refusal;
 
-// A line that a newline ends, and where the next one begins; or one that has only begun.
-#[derive(Clone, Copy)]
+// A line that a newline ends, and where the next one begins.
+#[derive(Debug, Clone, Copy, PartialEq, Eq)]
 pub struct Front {
-    pub ended: bool,
     pub next: usize,
-    pub frame: LogFrame,
+    pub line: Result<Option<LogFrame>, Refusal>,
 }
 
-fn no_frame(answer: LineAnswer) -> LogFrame
-    ensures { result ≡ without answer }
-{
-    LogFrame {
-        answer,
-        identifier: 0,
-        stamp: 0,
-        length: 0,
-        data: [0; 8],
-    }
-}
-
-// What the parts of a line say.
-fn answer_of(found: Scanned) -> LogFrame
-    ensures { result ≡ answer_of found }
-{
-    if found.three {
-        return no_frame(LineAnswer::PassedOver);
-    }
-    if 536870912 <= found.number {
-        return no_frame(LineAnswer::Refused(Refusal::IdentifierTooLarge));
-    }
-    let data = found.data;
-    LogFrame {
-        answer: LineAnswer::Frame,
-        identifier: found.number,
-        stamp: found.stamp,
-        length: found.length,
-        data,
-    }
-}
-
-pub fn read_line(line: &[u8]) -> LogFrame
+// Nothing where the line is passed over.
+pub fn read_line(line: &[u8]) -> Result<Option<LogFrame>, Refusal>
     ensures { result ≡ line_read line.now }
 {
-    let found = scan(line);
-    if found.begins & ((found.end == line.len()) & (found.end <= 255)) {
-        return answer_of(found);
+    let found = scan(line).ok_or(Refusal::MalformedLine)?;
+    if (found.end == line.len()) & (found.end <= 255) {
+        return found.line;
     }
-    no_frame(LineAnswer::Refused(Refusal::MalformedLine))
+    Err(Refusal::MalformedLine)
 }
 
-fn line_end(text: &[u8]) -> usize
-    ensures { result ≡ front_end text.now }
+fn line_end(text: &[u8]) -> Option<usize>
+    ensures { result ≡ position (λ b. b == 10) text.now }
 {
-    let mut at = 0;
-    while at < text.len() {
-        if text[at] == 10 {
-            return at;
-        }
-        at += 1;
-    }
-    at
+    text.iter().position(|byte| *byte == b'\n')
 }
 
-// A sound line ends where its parts end. Of any other the newline is looked for, and what stands before it is malformed.
-pub fn read_front(text: &[u8]) -> Front
+// The line up to the first newline, none where it has only begun. A sound line ends where its parts end. Of any other the newline is
+// looked for, and what stands before it is malformed.
+pub fn read_front(text: &[u8]) -> Option<Front>
     ensures { result ≡ front_read text.now }
 {
-    let found = scan(text);
-    let end = found.end;
-    if found.begins & ((byte_at(text, end) == 10) & (end <= 255)) {
-        let frame = answer_of(found);
-        return Front {
-            ended: true,
-            next: end + 1,
-            frame,
-        };
+    if let Some(found) = scan(text) {
+        let end = found.end;
+        if (byte_at(text, end) == b'\n') & (end <= 255) {
+            return Some(Front {
+                next: end + 1,
+                line: found.line,
+            });
+        }
     }
-    let frame = no_frame(LineAnswer::Refused(Refusal::MalformedLine));
-    let stop = line_end(text);
-    if stop < text.len() {
-        return Front {
-            ended: true,
-            next: stop + 1,
-            frame,
-        };
-    }
-    Front {
-        ended: false,
-        next: 0,
-        frame,
-    }
+    let stop = line_end(text)?;
+    Some(Front {
+        next: stop + 1,
+        line: Err(Refusal::MalformedLine),
+    })
 }

@@ -1,105 +1,118 @@
 // What stands at the front of a text, taken as a line: whether it begins with a line's parts, where they end, and what they say.
 ghost use Rattle.std.specs.Prelude.{◌≡◌};
 ghost use Rattle.logs.specs.Lines.{dot_at};
-ghost use Rattle.logs.specs.Scans.{TimeFound, NameFound, scanned};
+ghost use Rattle.logs.specs.Scans.{time_said, name_said, name_reads, scanned};
 
-use crate::parts::{byte_at, bytes_from, decimal_run, digits_in, pass};
+use crate::answer::{DataBytes, LogFrame, TOO_LARGE};
+use crate::parts::{Digits, byte_at, bytes_from, decimal_run, digits_in, pass};
+use identifiers::Refusal;
 
+// Where the parts of a line end, and what they are read as.
 #[derive(Clone, Copy)]
 pub struct Scanned {
-    pub begins: bool,
-    pub three: bool,
     pub end: usize,
-    pub number: u32,
-    pub stamp: u32,
-    pub length: u8,
-    pub data: [u8; 8],
+    pub line: Result<Option<LogFrame>, Refusal>,
 }
 
 #[derive(Clone, Copy)]
 struct Time {
-    good: bool,
     dot: usize,
     stamp: u32,
 }
 
+// An identifier, none where it has three digits, and where its mark stands.
 #[derive(Clone, Copy)]
 struct Name {
-    good: bool,
-    three: bool,
     mark: usize,
-    number: u32,
+    number: Option<u32>,
 }
 
 // The time in its brackets.
-fn time_of(text: &[u8]) -> Time
-    ensures { TimeFound text.now result }
+fn time_of(text: &[u8]) -> Option<Time>
+    ensures { result ≡ time_said text.now }
 {
     let seconds = decimal_run(text, 1);
     let dot = seconds.end;
-    let micros = digits_in(text, dot + 1, dot + 7, 10);
-    let good = (byte_at(text, 0) == 40)
-        & ((1 < dot)
-            & ((byte_at(text, dot) == 46) & (micros.good & (byte_at(text, dot + 7) == 41))));
-    let stamp = (seconds.value * 1000 + micros.value / 1000) % 4294967296;
-    Time {
+    let Digits {
         good,
-        dot,
-        stamp: stamp as u32,
+        value: micros,
+    } = digits_in(text, dot + 1, dot + 7, 10);
+    if !good {
+        return None;
     }
+    if (byte_at(text, 0) == b'(')
+        & ((1 < dot) & ((byte_at(text, dot) == b'.') & (byte_at(text, dot + 7) == b')')))
+    {
+        let stamp = (seconds.value * 1000 + micros / 1000) % 4294967296;
+        return Some(Time {
+            dot,
+            stamp: stamp as u32,
+        });
+    }
+    None
 }
 
 // The identifier behind its interface: the mark stands behind three digits, or else behind eight.
-fn name_of(text: &[u8], dot: usize) -> Name
+fn name_of(text: &[u8], dot: usize) -> Option<Name>
     requires { dot ≡ dot_at text.now }
-    ensures { NameFound text.now result }
+    ensures { result ≡ name_said text.now }
 {
-    let interface = pass(text, dot + 8, 32, 32);
-    let gap = pass(text, interface, 33, 126);
-    let parted = (dot + 8 < interface) & ((interface < gap) & (byte_at(text, gap) == 32));
-    if byte_at(text, gap + 4) == 35 {
-        let name = digits_in(text, gap + 1, gap + 4, 16);
-        return Name {
-            good: parted & name.good,
-            three: true,
+    let interface = pass(text, dot + 8, b' ', b' ');
+    let gap = pass(text, interface, b'!', b'~');
+    if !((dot + 8 < interface) & ((interface < gap) & (byte_at(text, gap) == b' '))) {
+        return None;
+    }
+    if byte_at(text, gap + 4) == b'#' {
+        let Digits { good, .. } = digits_in(text, gap + 1, gap + 4, 16);
+        if !good {
+            return None;
+        }
+        return Some(Name {
             mark: gap + 4,
-            number: name.value as u32,
-        };
+            number: None,
+        });
     }
-    let name = digits_in(text, gap + 1, gap + 9, 16);
-    Name {
-        good: parted & (name.good & (byte_at(text, gap + 9) == 35)),
-        three: false,
+    let Digits {
+        good,
+        value: number,
+    } = digits_in(text, gap + 1, gap + 9, 16);
+    if !good {
+        return None;
+    }
+    if byte_at(text, gap + 9) != b'#' {
+        return None;
+    }
+    Some(Name {
         mark: gap + 9,
-        number: name.value as u32,
-    }
+        number: Some(number as u32),
+    })
 }
 
-pub fn scan(text: &[u8]) -> Scanned
+// What the parts of a line say.
+fn line_of(name: Name, stamp: u32, data: DataBytes) -> Result<Option<LogFrame>, Refusal>
+    ensures { result ≡ name_reads name.number stamp «data» }
+{
+    let Some(identifier) = name.number else {
+        return Ok(None);
+    };
+    if TOO_LARGE <= identifier {
+        return Err(Refusal::IdentifierTooLarge);
+    }
+    Ok(Some(LogFrame {
+        identifier,
+        stamp,
+        data,
+    }))
+}
+
+pub fn scan(text: &[u8]) -> Option<Scanned>
     ensures { result ≡ scanned text.now }
 {
-    let time = time_of(text);
-    let name = name_of(text, time.dot);
-    let bytes = bytes_from(text, name.mark + 1);
-    if time.good & name.good {
-        let data = bytes.data;
-        return Scanned {
-            begins: true,
-            three: name.three,
-            end: name.mark + 1 + 2 * (bytes.count as usize),
-            number: name.number,
-            stamp: time.stamp,
-            length: bytes.count,
-            data,
-        };
-    }
-    Scanned {
-        begins: false,
-        three: false,
-        end: 0,
-        number: 0,
-        stamp: 0,
-        length: 0,
-        data: [0; 8],
-    }
+    let time = time_of(text)?;
+    let name = name_of(text, time.dot)?;
+    let data = bytes_from(text, name.mark + 1);
+    Some(Scanned {
+        end: name.mark + 1 + 2 * (data.count as usize),
+        line: line_of(name, time.stamp, data),
+    })
 }

@@ -3,7 +3,7 @@ ghost use Rattle.std.specs.Prelude.{◌≡◌, ◌+◌, ◌*◌, ◌≤◌, ◌<
 ghost use Rattle.identifiers.specs.Bytes.{Puts};
 ghost use Rattle.logs.specs.Written.{hexes, millis, line_written, text_after};
 
-use crate::answer::LineWritten;
+use crate::answer::TOO_LARGE;
 use identifiers::Refusal;
 use text::{put, put_decimal, put_hex};
 
@@ -11,23 +11,14 @@ use text::{put, put_decimal, put_hex};
 // signs.
 pub const TEXT: usize = 48;
 
-// An array for a line's text has as many bytes as its type says.
-fn room(text: &[u8; TEXT]) -> usize
-    ensures { (result ≡ 48) × (length text.now ≡ 48) }
-{
-    let bytes: &[u8] = text;
-    bytes.len()
-}
-
+// Text and place stand apart here and below, as in the functions of `text`, for their reason.
 fn put_hexes(text: &mut [u8], start: usize, bytes: &[u8]) -> usize
     requires { start + 2 * length bytes.now ≤ length text.old }
     ensures { Puts text.old start (hexes bytes.now) result text.new }
 {
     let mut at = start;
-    let mut i = 0;
-    while i < bytes.len() {
-        at = put_hex(text, at, bytes[i]);
-        i += 1;
+    for byte in bytes {
+        at = put_hex(text, at, *byte);
     }
     at
 }
@@ -38,32 +29,32 @@ fn put_millis(text: &mut [u8], at: usize, number: u32) -> usize
     ensures { Puts text.old at (millis number) result text.new }
 {
     let digits = [
-        48 + (number / 100) as u8,
-        48 + (number / 10 % 10) as u8,
-        48 + (number % 10) as u8,
-        48,
-        48,
-        48,
+        b'0' + (number / 100) as u8,
+        b'0' + (number / 10 % 10) as u8,
+        b'0' + (number % 10) as u8,
+        b'0',
+        b'0',
+        b'0',
     ];
     put(text, at, &digits)
 }
 
-pub fn write_line(identifier: u32, data: &[u8], stamp: u32, text: &mut [u8; TEXT]) -> LineWritten
+// How many bytes the line has, its newline among them.
+pub fn write_line(
+    identifier: u32,
+    data: &[u8],
+    stamp: u32,
+    text: &mut [u8; TEXT],
+) -> Result<u8, Refusal>
     ensures { (result ≡ line_written identifier «data».now stamp) × (text.new ≡ text_after identifier «data».now stamp text.old) }
 {
-    if 536870912 <= identifier {
-        return LineWritten::Refused(Refusal::IdentifierTooLarge);
+    if TOO_LARGE <= identifier {
+        return Err(Refusal::IdentifierTooLarge);
     }
     if 8 < data.len() {
-        return LineWritten::Refused(Refusal::TooManyDataBytes);
+        return Err(Refusal::TooManyDataBytes);
     }
-    let name = [
-        (identifier / 16777216) as u8,
-        (identifier / 65536 % 256) as u8,
-        (identifier / 256 % 256) as u8,
-        (identifier % 256) as u8,
-    ];
-    room(text);
+    let name = identifier.to_be_bytes();
     let a = put(text, 0, b"(");
     let b = put_decimal(text, a, (stamp / 1000) as usize);
     let c = put(text, b, b".");
@@ -73,5 +64,5 @@ pub fn write_line(identifier: u32, data: &[u8], stamp: u32, text: &mut [u8; TEXT
     let g = put(text, f, b"#");
     let h = put_hexes(text, g, data);
     let end = put(text, h, b"\n");
-    LineWritten::Written(end as u8)
+    Ok(end as u8)
 }

@@ -4,8 +4,8 @@ use mathlib.Core.List.{List, [], ◌∷◌, ◌++◌}
 use Prim.Native.Nat.{ℕ, ◌≤◌}
 use native.Mathlib.Omega.{arith}
 use lib.ListN.{length, length-append}
+use Rattle.std.specs.Prelude.{Ok}
 use Rattle.sheet.specs.Sheets.{sheet_read}
-use Rattle.sheet.specs.declared.sheet_read.SheetRead.TheVariants.{Accepted}
 use Rattle.sheet.proofs.LawsReadings.{whole-accepted}
 use Rattle.sheet.proofs.LawsJoined.{accepted-append}
 use Rattle.mending.specs.Pieces.{Piece, Kept, Dropped, ended, joined, kept_of}
@@ -31,10 +31,10 @@ kept-length [] = omega arith
 kept-length (Kept bytes ∷ ps) = omega (arith, length-append bytes (kept_of ps), length-append bytes (joined ps), kept-length ps)
 kept-length (Dropped bytes ∷ ps) = omega (arith, length-append bytes (joined ps), kept-length ps)
 
-nothing-accepted : sheet_read [] ≡ Accepted
+nothing-accepted : sheet_read [] ≡ Ok tt
 nothing-accepted = whole-accepted [] 0 refl (omega arith) (λ k h. absurd (omega arith))
 
-pub kept-accepted : (ps : List Piece) → Stand ps → length (kept_of ps) ≤ 65535 → sheet_read (kept_of ps) ≡ Accepted
+pub kept-accepted : (ps : List Piece) → Stand ps → length (kept_of ps) ≤ 65535 → sheet_read (kept_of ps) ≡ Ok tt
 unfolding kept_of
 kept-accepted [] none l = nothing-accepted
 kept-accepted (Kept bytes ∷ ps) (kept r h) l =

@@ -7,6 +7,7 @@ use native.Mathlib.Nat.{zero-add}
 use native.Mathlib.Omega.{arith}
 use borrow.Author.Tests.{ltb-true, ltb-false, lt-ltb, le-ltb}
 use lib.ListN.{length, take, drop}
+use Rattle.std.specs.Prelude.{Ok, Err}
 use Rattle.identifiers.specs.Bytes.{Puts}
 use Rattle.identifiers.specs.Refusals.{refusal}
 use Rattle.identifiers.proofs.LawsChoice.{taken, passed, pick-false, was-taken, was-passed}
@@ -15,7 +16,7 @@ use Rattle.sheet.specs.Text.{page_size}
 use Rattle.mending.specs.Pieces.{begins, pieces, joined, kept_of, mended}
 use Rattle.mending.specs.Listed.{stretch_text, lines_from, stretch_lines}
 use Rattle.mending.specs.Mended.{too_long, mended_as, Mends}
-use Rattle.mending.specs.declared.mended.Mended.TheVariants.{Written, Refused}
+use Rattle.mending.specs.declared.mended.Mended.{Mended}
 use Rattle.mending.proofs.LawsWalked.{walked}
 use Rattle.mending.proofs.LawsKept.{kept-length}
 use Rattle.mending.proofs.LawsListed.{lines_fit}
@@ -39,7 +40,7 @@ unfolding mended
 mended-length s = omega (arith, kept-length (pieces s), ap length (pieces-joined s))
 
 -- ---- refused: nothing is written
-pub mends-not : (s kept page : List ℕ) → 65535 < length s → (Refused (refusal 21) ≡ mended_as s) × Mends s kept page kept page
+pub mends-not : (s kept page : List ℕ) → 65535 < length s → (Err (refusal 21) ≡ mended_as s) × Mends s kept page kept page
 unfolding mended_as
 mends-not s kept page l = let e = too-long s l in (taken _ e refl, record { keeps = taken _ e refl; lists = taken _ e refl })
 
@@ -62,30 +63,27 @@ module _ {s kept₀ page₀ kept page : List ℕ} {at start end listed : ℕ} (g
   all_listed m p = left-none (left-put g.lists [] (list-last g m) p) refl
 
 pub mends-both : {s kept₀ page₀ kept page : List ℕ} {end listed : ℕ} → length s ≤ 65535 → Puts kept₀ 0 (mended s) end kept → Puts page₀ 0 (stretch_lines s) listed page
-    → (Written end listed ≡ mended_as s) × Mends s kept₀ page₀ kept page
+    → (Ok (record { kept = end; listed = listed }) ≡ mended_as s) × Mends s kept₀ page₀ kept page
 unfolding mended_as
 mends-both {s} l p q =
     let e = not-too-long s l in
-    (passed _ e (ap₂ Written (p.ends ∙ zero-add _) (q.ends ∙ zero-add _)), record { keeps = passed _ e p.holds; lists = passed _ e q.holds })
+    (passed _ e (ap₂ (λ (k l : ℕ). Ok (record { kept = k; listed = l })) (p.ends ∙ zero-add _) (q.ends ∙ zero-add _)), record { keeps = passed _ e p.holds; lists = passed _ e q.holds })
 
 -- ---- what the answer says of the arrays
-not-refused : (a b : ℕ) (why : Refusal) → Written a b ≡ Refused why → ⊥
-not-refused a b why e = let z : ◌≡◌ {A = ℕ} 0 1 = cc in omega arith
-
-pub answered-refused : (s : List ℕ) (why : Refusal) → mended_as s ≡ Refused why → (why ≡ refusal 21) × (65535 < length s)
+pub answered-refused : (s : List ℕ) (why : Refusal) → mended_as s ≡ Err why → (why ≡ refusal 21) × (65535 < length s)
 unfolding mended_as too_long
 answered-refused s why e =
-    let h = was-taken _ _ _ _ (not-refused (length (mended s)) (length (stretch_lines s)) why) e in
-    let same : Refused (refusal 21) ≡ Refused why = h.1 in
+    let h = was-taken _ _ _ _ (λ (f : Ok (record { kept = length (mended s); listed = length (stretch_lines s) }) ≡ Err why). cc) e in
+    let same : Err (refusal 21) ≡ Err why = h.1 in
     let w : why ≡ refusal 21 = cc in
     (w, ltb-true _ _ h.0)
 
-pub answered-written : {s kept₀ page₀ kept page : List ℕ} (end listed : ℕ) → mended_as s ≡ Written end listed → Mends s kept₀ page₀ kept page
-    → (length s ≤ 65535) × (Puts kept₀ 0 (mended s) end kept × Puts page₀ 0 (stretch_lines s) listed page)
+pub answered-written : {s kept₀ page₀ kept page : List ℕ} (done : Mended) → mended_as s ≡ Ok done → Mends s kept₀ page₀ kept page
+    → (length s ≤ 65535) × (Puts kept₀ 0 (mended s) done.kept kept × Puts page₀ 0 (stretch_lines s) done.listed page)
 unfolding mended_as too_long
-answered-written {s} end listed e m =
-    let h = was-passed _ _ _ _ (λ (f : Refused (refusal 21) ≡ Written end listed). not-refused end listed (refusal 21) (sym f)) e in
-    let same : Written (length (mended s)) (length (stretch_lines s)) ≡ Written end listed = h.1 in
-    let k : end ≡ length (mended s) = cc in
-    let l : listed ≡ length (stretch_lines s) = cc in
+answered-written {s} done e m =
+    let h = was-passed _ _ _ _ (λ (f : Err (refusal 21) ≡ Ok done). cc) e in
+    let same : ◌≡◌ {A = Mended} (record { kept = length (mended s); listed = length (stretch_lines s) }) done = cc in
+    let k : done.kept ≡ length (mended s) = sym (ap (λ (d : Mended). d.kept) same) in
+    let l : done.listed ≡ length (stretch_lines s) = sym (ap (λ (d : Mended). d.listed) same) in
     (ltb-false _ _ h.0, (record { ends = omega arith; holds = m.keeps ∙ pick-false _ _ h.0 }, record { ends = omega arith; holds = m.lists ∙ pick-false _ _ h.0 }))

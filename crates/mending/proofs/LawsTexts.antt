@@ -4,6 +4,7 @@ use mathlib.Core.List.{List}
 use Prim.Native.Nat.{ℕ, ◌≤◌, ◌<◌}
 use native.Mathlib.Omega.{arith}
 use lib.ListN.{length, take}
+use Rattle.std.specs.Prelude.{Ok}
 use Rattle.identifiers.specs.Bytes.{Puts}
 use Rattle.identifiers.specs.Choice.{pick}
 use Rattle.identifiers.proofs.LawsBytes.{keeps-length, puts_whole}
@@ -14,7 +15,7 @@ use Rattle.sheet.specs.Printed.{printed}
 use Rattle.sheet.proofs.LawsSheets.{sheet-21}
 use Rattle.sheet.proofs.LawsPrinted.{printed-refused}
 use Rattle.mending.specs.Mended.{too_long, mended_as, Mends, sheet_text, list_text}
-use Rattle.mending.specs.declared.mended.Mended.TheVariants.{Written}
+use Rattle.mending.specs.declared.mended.Mended.{Mended}
 use Rattle.mending.proofs.LawsListed.{lines_fit}
 use Rattle.mending.proofs.LawsMended.{too-long, not-too-long, mended-length, answered-written}
 
@@ -29,14 +30,14 @@ put-stands : {array after text : List ℕ} {end : ℕ} (s line : List ℕ) → l
 put-stands s line short fits p =
     record { within = omega (arith, p.ends, keeps-length p); whole = puts_whole fits p ∙ sym (pick-false _ _ (not-too-long s short)) }
 
-module _ {s kept₀ page₀ kept page : List ℕ} (end listed : ℕ) (e : mended_as s ≡ Written end listed) (m : Mends s kept₀ page₀ kept page) where
-  pub sheet-stands : length kept₀ ≡ 65535 → Stands (sheet_text s) kept end
+module _ {s kept₀ page₀ kept page : List ℕ} (done : Mended) (e : mended_as s ≡ Ok done) (m : Mends s kept₀ page₀ kept page) where
+  pub sheet-stands : length kept₀ ≡ 65535 → Stands (sheet_text s) kept done.kept
   unfolding sheet_text
-  sheet-stands k = let h = answered-written end listed e m in put-stands s (refusal_line 21 0) h.0 (omega (arith, mended-length s, h.0)) h.1.0
+  sheet-stands k = let h = answered-written done e m in put-stands s (refusal_line 21 0) h.0 (omega (arith, mended-length s, h.0)) h.1.0
 
-  pub list-stands : length page₀ ≡ page_size → Stands (list_text s) page listed
+  pub list-stands : length page₀ ≡ page_size → Stands (list_text s) page done.listed
   unfolding list_text
-  list-stands l = let h = answered-written end listed e m in put-stands s (refusal_line 21 0) h.0 (omega (arith, lines_fit s h.0)) h.1.1
+  list-stands l = let h = answered-written done e m in put-stands s (refusal_line 21 0) h.0 (omega (arith, lines_fit s h.0)) h.1.1
 
 -- too long: the count sheet prints the line
 pub refused-text : (s : List ℕ) → 65535 < length s → (printed s ≡ sheet_text s) × (printed s ≡ list_text s)

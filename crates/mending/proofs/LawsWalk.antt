@@ -2,32 +2,28 @@
 use mathlib.Core.Path.{◌≡◌, refl, sym, ap, ◌∙◌}
 use mathlib.Core.Bool.{Bool, true, false, false≢true}
 use mathlib.Core.List.{List, [], ◌∷◌, ◌++◌}
-use Prim.Native.Nat.{ℕ, zero, suc, ◌≤◌, ◌<◌}
+use Prim.Native.Nat.{ℕ, zero, suc, ◌≤◌}
 use native.Mathlib.Omega.{arith}
-use borrow.Author.Tests.{eqb-true, eq-eqb, ne_eqb}
+use borrow.Author.Tests.{eqb-true, eq-eqb}
 use lib.ListN.{length, take, drop, length-take, length-drop}
 use lib.Seq.{length-take-le}
-use Rattle.identifiers.proofs.LawsChoice.{pick_true, pick-false, both_true, stop, so}
+use Rattle.std.specs.Prelude.{Ok, Err}
+use Rattle.identifiers.proofs.LawsChoice.{pick_true, pick-false, both_true, so}
 use Rattle.sheet.specs.Sheets.{sheet_read}
-use Rattle.sheet.specs.declared.sheet_read.SheetRead.{SheetRead}
-use Rattle.sheet.specs.declared.sheet_read.SheetRead.TheVariants.{Accepted, Refused}
+use Rattle.sheet.specs.Fields.{SheetRead}
 use Rattle.mending.specs.Pieces.{accepts, is_reading, begins, Piece, Kept, ended, walk}
 
 -- ---- a whole valid reading
-accepts-is : (r : SheetRead) → accepts r ≡ true → r ≡ Accepted
+accepts-is : (r : SheetRead) → accepts r ≡ true → r ≡ Ok tt
 unfolding accepts
-accepts-is Accepted e = refl
-accepts-is (Refused why offset) e = absurd (false≢true e)
+accepts-is (Ok _) e = refl
+accepts-is (Err _) e = absurd (false≢true e)
 
-pub reading-is : (bytes : List ℕ) → is_reading bytes ≡ true → (length bytes ≡ 17) × (sheet_read bytes ≡ Accepted)
+pub reading-is : (bytes : List ℕ) → is_reading bytes ≡ true → (length bytes ≡ 17) × (sheet_read bytes ≡ Ok tt)
 unfolding is_reading
 reading-is bytes e = let h = both_true _ _ e in (eqb-true _ _ h.0, accepts-is (sheet_read bytes) h.1)
 
 -- what the code asks: enough bytes, then the count sheet
-pub begins-short : (s : List ℕ) → length s < 17 → false ≡ begins s
-unfolding begins is_reading
-begins-short s l = let n : length (take 17 s) ≡ 17 → ⊥ = (λ e. omega (arith, length-take 17 s)) in stop _ (ne_eqb _ _ n)
-
 pub begins-judged : (s : List ℕ) (r : SheetRead) → 17 ≤ length s → sheet_read (take 17 s) ≡ r → accepts r ≡ begins s
 unfolding begins is_reading
 begins-judged s r l e = so (eq-eqb _ _ (length-take-le 17 s l)) (ap accepts (sym e))
@@ -36,7 +32,7 @@ pub begins-whole : (s : List ℕ) → begins s ≡ true → 17 ≤ length s
 unfolding begins
 begins-whole s e = omega (arith, (reading-is (take 17 s) e).0, length-take 17 s)
 
-pub begins-not : (s : List ℕ) → (sheet_read (take 17 s) ≡ Accepted → ⊥) → begins s ≡ false
+pub begins-not : (s : List ℕ) → (sheet_read (take 17 s) ≡ Ok tt → ⊥) → begins s ≡ false
 unfolding begins
 begins-not s n = by-test (begins s) refl
   where
@@ -44,7 +40,7 @@ begins-not s n = by-test (begins s) refl
     by-test true e = absurd (n (reading-is (take 17 s) e).1)
     by-test false e = e
 
-pub is-reading : (bytes : List ℕ) → length bytes ≡ 17 → sheet_read bytes ≡ Accepted → is_reading bytes ≡ true
+pub is-reading : (bytes : List ℕ) → length bytes ≡ 17 → sheet_read bytes ≡ Ok tt → is_reading bytes ≡ true
 unfolding is_reading accepts
 is-reading bytes l e = sym (so (eq-eqb _ _ l) (ap accepts (sym e)))
 

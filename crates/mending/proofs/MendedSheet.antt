@@ -8,6 +8,7 @@ use native.Mathlib.Nat.{zero-add}
 use native.Mathlib.Omega.{arith}
 use lib.ListN.{length, take, drop, length-drop, take-append-drop}
 use lib.Seq.{take-append_seam, drop-append_seam}
+use Rattle.std.specs.Prelude.{Ok, Err}
 use Rattle.identifiers.proofs.LawsBytes.{puts_whole, puts-rest}
 use Rattle.identifiers.proofs.LawsChoice.{pick_true}
 use Rattle.identifiers.specs.Refusals.{refusal}
@@ -16,12 +17,11 @@ use Rattle.text.specs.Digits.{decimal, value_from, newlines}
 use Rattle.text.proofs.Texts.{decimal-says}
 use Rattle.sheet.specs.Text.{page_size}
 use Rattle.sheet.specs.Sheets.{sheet_read}
-use Rattle.sheet.specs.declared.sheet_read.SheetRead.TheVariants.{Accepted}
 use Rattle.sheet.proofs.LawsJoined.{accepted-first, accepted-behind}
 use Rattle.mending.specs.Pieces.{accepts, begins, Piece, Kept, Dropped, ended, walk, pieces, joined, kept_of, mended}
 use Rattle.mending.specs.Listed.{stretch_line, lines_from, stretch_lines, stretches_in}
 use Rattle.mending.specs.Mended.{mended_as, Mends}
-use Rattle.mending.specs.declared.mended.Mended.TheVariants.{Written, Refused}
+use Rattle.mending.specs.declared.mended.Mended.{Mended}
 use Rattle.mending.specs.Mending.{Mending}
 use Rattle.mending.proofs.LawsWalk.{begins-judged, ended-none, walk_end, walk-keep}
 use Rattle.mending.proofs.LawsPieces.{silent, Stand, stand-mending, mending-stand}
@@ -45,7 +45,7 @@ one-mending s ps m =
     ap (λ (x : List Piece). x ++ ps) (sym ended-none) ∙ sym (stand-walk ps (mending-stand ps s m) [] (inl refl)) ∙ ap (walk 0 []) m.together
 
 -- ---- "The result is always accepted by the count sheet"
-pub always-accepted : (s : List ℕ) → length s ≤ 65535 → sheet_read (mended s) ≡ Accepted
+pub always-accepted : (s : List ℕ) → length s ≤ 65535 → sheet_read (mended s) ≡ Ok tt
 unfolding mended
 always-accepted s l = kept-accepted (pieces s) (stand s) (omega (arith, mended-length s))
 
@@ -75,18 +75,18 @@ unhurt-more s e h =
       unlisted = λ offset. ap (lines_from offset) first ∙ lines-kept offset (take 17 s) ps ∙ h.unlisted (offset + length (take 17 s));
     }
 
-accepted-begins : (s : List ℕ) → sheet_read s ≡ Accepted → 0 < length s → begins s ≡ true
+accepted-begins : (s : List ℕ) → sheet_read s ≡ Ok tt → 0 < length s → begins s ≡ true
 unfolding accepts
-accepted-begins s e l = let first = accepted-first s e l in sym (begins-judged s Accepted first.0 first.1)
+accepted-begins s e l = let first = accepted-first s e l in sym (begins-judged s (Ok tt) first.0 first.1)
 
-unhurt : (n : ℕ) (s : List ℕ) → length s ≤ n → sheet_read s ≡ Accepted → Unhurt s (walk 0 [] s)
+unhurt : (n : ℕ) (s : List ℕ) → length s ≤ n → sheet_read s ≡ Ok tt → Unhurt s (walk 0 [] s)
 unhurt zero [] l e = unhurt-none
 unhurt zero (b ∷ s) l e = absurd (omega arith)
 unhurt (suc n) [] l e = unhurt-none
 unhurt (suc n) (b ∷ s) l e =
     unhurt-more (b ∷ s) (accepted-begins (b ∷ s) e (omega arith)) (unhurt n (drop 17 (b ∷ s)) (omega (arith, length-drop 17 (b ∷ s))) (accepted-behind (b ∷ s) e))
 
-pub sound-unchanged : (s : List ℕ) → sheet_read s ≡ Accepted → Unchanged s
+pub sound-unchanged : (s : List ℕ) → sheet_read s ≡ Ok tt → Unchanged s
 unfolding mended stretch_lines pieces
 sound-unchanged s e = let h = unhurt (length s) s (omega arith) e in record { whole = h.whole; unlisted = h.unlisted 0 }
 
@@ -123,7 +123,7 @@ listed-stretch s front back bytes e =
     }
 
 -- ---- "Refusals: 21 only": of an input that is too long, where the count sheet says the same
-pub only-21 : (s : List ℕ) (why : Refusal) → (mended_as s ≡ Refused why → (why ≡ refusal 21) × (65535 < length s)) × (65535 < length s → mended_as s ≡ Refused (refusal 21))
+pub only-21 : (s : List ℕ) (why : Refusal) → (mended_as s ≡ Err why → (why ≡ refusal 21) × (65535 < length s)) × (65535 < length s → mended_as s ≡ Err (refusal 21))
 only-21 s why = (answered-refused s why, λ l. sym (mends-not s [] [] l).0)
 
 -- ---- the two arrays: each text from the start on, and every byte behind it as it was; where refused, both as they were
@@ -133,10 +133,10 @@ pub record Arrays (s kept₀ page₀ kept page : List ℕ) (end listed : ℕ) : 
   pub list : take listed page ≡ stretch_lines s
   pub past-list : drop listed page ≡ drop listed page₀
 
-pub arrays-hold : {s kept₀ page₀ kept page : List ℕ} (end listed : ℕ) → length kept₀ ≡ 65535 → length page₀ ≡ page_size → mended_as s ≡ Written end listed
-    → Mends s kept₀ page₀ kept page → Arrays s kept₀ page₀ kept page end listed
-arrays-hold {s} end listed k l e m =
-    let h = answered-written end listed e m in
+pub arrays-hold : {s kept₀ page₀ kept page : List ℕ} (done : Mended) → length kept₀ ≡ 65535 → length page₀ ≡ page_size → mended_as s ≡ Ok done
+    → Mends s kept₀ page₀ kept page → Arrays s kept₀ page₀ kept page done.kept done.listed
+arrays-hold {s} done k l e m =
+    let h = answered-written done e m in
     record {
       sheet = puts_whole (omega (arith, mended-length s, h.0)) h.1.0;
       past-sheet = puts-rest h.1.0;

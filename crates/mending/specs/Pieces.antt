@@ -1,13 +1,12 @@
 -- The walk through a cut sheet (document 02, 2026-12), and the pieces that it leaves: readings kept, stretches dropped.
-use Rattle.std.specs.Prelude.{Bool, true, false, List, [], ◌∷◌, ◌++◌, ℕ, zero, suc, eqb, length, take}
+use Rattle.std.specs.Prelude.{Bool, true, false, Ok, Err, List, [], ◌∷◌, ◌++◌, ℕ, zero, suc, eqb, length, take}
 use Rattle.identifiers.specs.Choice.{pick, both}
+use Rattle.sheet.specs.Fields.{SheetRead}
 use Rattle.sheet.specs.Sheets.{sheet_read}
-use Rattle.sheet.specs.declared.sheet_read.SheetRead.{SheetRead}
-use Rattle.sheet.specs.declared.sheet_read.SheetRead.TheVariants.{Accepted, Refused}
 
 unfoldable pub accepts : SheetRead → Bool
-accepts Accepted = true
-accepts (Refused why offset) = false
+accepts (Ok _) = true
+accepts (Err _) = false
 
 -- "a whole valid 17-byte reading": seventeen bytes that the count sheet accepts
 unfoldable pub is_reading : List ℕ → Bool

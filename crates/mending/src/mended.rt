@@ -1,16 +1,16 @@
-// What mending answers: how many bytes were kept and how many the list has, or the refusal.
+// What mending leaves: how many bytes were kept and how many the list has; and that, or the refusal, in numbers.
 ghost use Rattle.std.specs.Prelude.{◌≡◌};
 ghost use Rattle.mending.specs.Mended.{mended_told};
 
 use identifiers::Refusal;
 
-#[derive(Clone, Copy)]
-pub enum Mended {
-    Written(u32, u32),
-    Refused(Refusal),
+#[derive(Clone, Copy, Debug, PartialEq, Eq)]
+pub struct Mended {
+    pub kept: u32,
+    pub listed: u32,
 }
 
-// The answer in numbers: the refusal, 0 for none, and both lengths, 0 where refused.
+// The refusal, 0 for none, and both lengths, 0 where refused.
 #[repr(C)]
 #[derive(Clone, Copy)]
 pub struct MendedTold {
@@ -19,17 +19,18 @@ pub struct MendedTold {
     pub listed: u32,
 }
 
-impl Mended {
-    pub fn told(self) -> MendedTold
-        ensures { result ≡ mended_told self }
-    {
-        match self {
-            Mended::Written(kept, listed) => MendedTold {
+impl From<Result<Mended, Refusal>> for MendedTold {
+    ghost from_gives = { λ answer told. told ≡ mended_told answer };
+
+    #[tactic(auto, unfolding(crate::specs::Mended::mended_told))]
+    fn from(answer: Result<Mended, Refusal>) -> MendedTold {
+        match answer {
+            Ok(mended) => MendedTold {
                 refusal: 0,
-                kept,
-                listed,
+                kept: mended.kept,
+                listed: mended.listed,
             },
-            Mended::Refused(why) => MendedTold {
+            Err(why) => MendedTold {
                 refusal: why.number(),
                 kept: 0,
                 listed: 0,

@@ -1,45 +1,37 @@
 // The walk from the start of the input: a whole reading is kept, and every other byte dropped.
-ghost use Rattle.std.specs.Prelude.{◌≡◌, length};
+ghost use Rattle.std.specs.Prelude.{◌≡◌};
 ghost use Rattle.mending.specs.Pieces.{begins};
 ghost use Rattle.mending.specs.Mended.{mended_as, Mends};
 
 use crate::mended::Mended;
 use crate::stretch::put_stretch;
 use identifiers::Refusal;
-use sheet::{MOST_INPUT, PAGE, READING_SIZE, SheetRead, measured, read_sheet};
+use sheet::{MOST_INPUT, PAGE, READING_SIZE, read_sheet};
 use text::put;
 
 // Whether a whole valid reading begins with the first byte.
+#[tactic(auto, unfolding(crate::specs::Pieces::begins, crate::specs::Pieces::is_reading, crate::specs::Pieces::accepts, identifiers::specs::Choice::both))]
 fn begins(rest: &[u8]) -> bool
     ensures { result ≡ begins rest.now }
 {
-    if rest.len() < READING_SIZE {
-        return false;
-    }
-    match read_sheet(&rest[..READING_SIZE]) {
-        SheetRead::Accepted => true,
-        SheetRead::Refused(_, _) => false,
-    }
-}
-
-// An array for the kept readings has as many bytes as its type says.
-fn room(kept: &[u8; MOST_INPUT]) -> usize
-    ensures { (result ≡ 65535) × (length kept.now ≡ 65535) }
-{
-    let bytes: &[u8] = kept;
-    bytes.len()
+    rest.get(..READING_SIZE)
+        .is_some_and(|reading| read_sheet(reading).is_ok())
 }
 
 // Puts the kept readings at the start of their array, and the list of dropped stretches at the start of the page. The bytes from
 // `start` to `at` are dropped and not yet listed.
-pub fn mend(input: &[u8], kept: &mut [u8; MOST_INPUT], page: &mut [u8; PAGE]) -> Mended
+// Both arrays are lent, and how much of each is used is told, as `castanhiu_mend` has it.
+// A turn goes on by a whole reading or by one byte, for which a `for` is no plainer than the `while`.
+pub fn mend(
+    input: &[u8],
+    kept: &mut [u8; MOST_INPUT],
+    page: &mut [u8; PAGE],
+) -> Result<Mended, Refusal>
     ensures { (result ≡ mended_as input.now) × Mends input.now kept.old page.old kept.new page.new }
 {
     if MOST_INPUT < input.len() {
-        return Mended::Refused(Refusal::InputTooLong);
+        return Err(Refusal::InputTooLong);
     }
-    room(kept);
-    measured(page);
     let mut at = 0;
     let mut start = 0;
     let mut end = 0;
@@ -56,5 +48,8 @@ pub fn mend(input: &[u8], kept: &mut [u8; MOST_INPUT], page: &mut [u8; PAGE]) ->
         }
     }
     let last = put_stretch(page, listed, start, at - start);
-    Mended::Written(end as u32, last as u32)
+    Ok(Mended {
+        kept: end as u32,
+        listed: last as u32,
+    })
 }

@@ -1,5 +1,6 @@
 -- The count sheet's theorems (document 01, "Count sheet"): the accepted sheets, the written ones, the refused ones, and the page. Each
 -- statement can be read without its proof. The basis is in LawsBasis, the worked examples are in Worked.
+use Rattle.std.specs.Prelude.{Ok}
 use mathlib.Core.Path.{◌≡◌, refl, sym, ap, ◌∙◌}
 use mathlib.Core.Bool.{Bool, true, false}
 use mathlib.Core.List.{List, [], ◌∷◌, ◌++◌, append_assoc}
@@ -16,13 +17,13 @@ use Rattle.identifiers.proofs.LawsBytes.{puts-rest}
 use Rattle.text.specs.Digits.{decimal, hex, blank, newline, value_from, newlines}
 use Rattle.text.proofs.LawsDigits.{decimal-in}
 use Rattle.text.proofs.Texts.{decimal-says, hex-says}
+use Rattle.sheet.specs.Fields.{refused_at}
 use Rattle.sheet.specs.Basis.{basis_of}
 use Rattle.sheet.specs.Sheets.{sheet_read}
 use Rattle.sheet.specs.Readings.{readings_in, reading_of, reading_bytes, sheet_of, Sound, EachSound}
 use Rattle.sheet.specs.Text.{page_size, header, word_of, numbers_of, line_of, refusal_line}
 use Rattle.sheet.specs.Printed.{printed}
 use Rattle.identifiers.specs.declared.refusal.Refusal.{Refusal}
-use Rattle.sheet.specs.declared.sheet_read.SheetRead.TheVariants.{Accepted, Refused}
 use Rattle.sheet.specs.declared.reading.CountReading.{CountReading}
 use Rattle.sheet.proofs.LawsFields.{position-range}
 use Rattle.sheet.proofs.LawsSheets.{accepted-short, sheet-21}
@@ -41,7 +42,7 @@ pub record AcceptedSheet (s : List ℕ) : Type 0 where
   pub text : printed s ≡ header ++ list_below (λ k. line_of (reading_of s k)) (readings_in s)
   pub lines : newlines (printed s) ≡ readings_in s + 1
 
-pub accepted-sheet : (s : List ℕ) → Bytes s → sheet_read s ≡ Accepted → AcceptedSheet s
+pub accepted-sheet : (s : List ℕ) → Bytes s → sheet_read s ≡ Ok tt → AcceptedSheet s
 accepted-sheet s b e =
     let l = accepted-length s e in
     let t = printed-accepted s e in
@@ -78,7 +79,7 @@ line-says r h =
 
 -- ---- readings written one after the other are accepted, and read back
 pub record WrittenSheet (rs : List CountReading) : Type 0 where
-  pub accepted : sheet_read (sheet_of rs) ≡ Accepted
+  pub accepted : sheet_read (sheet_of rs) ≡ Ok tt
   pub as_many : readings_in (sheet_of rs) ≡ length rs
   pub back : (k : ℕ) (other : CountReading) → k < length rs → reading_of (sheet_of rs) k ≡ get_or rs k other
 
@@ -93,10 +94,10 @@ written-sheet rs h l =
     }
 
 -- ---- refusals: 21 exactly where the input is too long; else the earliest field, then the lowest number; and only its line is printed
-pub too_long : (s : List ℕ) → 65535 < length s → sheet_read s ≡ Refused (refusal 21) 0
+pub too_long : (s : List ℕ) → 65535 < length s → sheet_read s ≡ refused_at (refusal 21) 0
 too_long = sheet-21
 
-pub only-too-long : (s : List ℕ) (offset : ℕ) → sheet_read s ≡ Refused (refusal 21) offset → 65535 < length s
+pub only-too-long : (s : List ℕ) (offset : ℕ) → sheet_read s ≡ refused_at (refusal 21) offset → 65535 < length s
 only-too-long s offset e = by_length (ltb 65535 (length s)) refl
   where
     by_length : (t : Bool) → ltb 65535 (length s) ≡ t → 65535 < length s
@@ -107,7 +108,7 @@ only-too-long s offset e = by_length (ltb 65535 (length s)) refl
         absurd (omega arith)
 
 pub earliest-field-then-lowest : (s : List ℕ) (why : Refusal) (offset : ℕ) → length s ≤ 65535
-    → (sheet_read s ≡ Refused why offset → Earliest s (number_of why) offset) × (Earliest s (number_of why) offset → sheet_read s ≡ Refused why offset)
+    → (sheet_read s ≡ refused_at why offset → Earliest s (number_of why) offset) × (Earliest s (number_of why) offset → sheet_read s ≡ refused_at why offset)
 earliest-field-then-lowest s why offset l = (earliest-then-lowest s why offset l, earliest-refused s why offset l)
 
 pub record RefusedSheet (s : List ℕ) (why : Refusal) (offset : ℕ) : Type 0 where
@@ -117,7 +118,7 @@ pub record RefusedSheet (s : List ℕ) (why : Refusal) (offset : ℕ) : Type 0 w
   pub number : value_from 10 0 (decimal (number_of why)) ≡ number_of why
   pub place : value_from 10 0 (decimal offset) ≡ offset
 
-pub refused-sheet : (s : List ℕ) (why : Refusal) (offset : ℕ) → sheet_read s ≡ Refused why offset → RefusedSheet s why offset
+pub refused-sheet : (s : List ℕ) (why : Refusal) (offset : ℕ) → sheet_read s ≡ refused_at why offset → RefusedSheet s why offset
 unfolding refusal_line
 refused-sheet s why offset e =
     let t = printed-refused s why offset e in

@@ -1,5 +1,6 @@
 -- A count is not judged: any two bytes behind the first fifteen of a sound reading are its count. And a sound reading without its first
 -- byte, or its first two, begins no reading, whatever stands behind it.
+use Rattle.std.specs.Prelude.{Ok}
 use mathlib.Core.Path.{◌≡◌, refl, sym, ap, ◌∙◌}
 use mathlib.Core.List.{List, [], ◌∷◌, ◌++◌, append-nil}
 use Prim.Native.Nat.{ℕ, ◌+◌, ◌*◌, ◌/◌, ◌%◌, ◌<◌}
@@ -8,7 +9,6 @@ use lib.ListN.{length, get_or, take, drop}
 use Rattle.sheet.specs.Sheets.{sheet_read}
 use Rattle.sheet.specs.Readings.{readings_in, reading_bytes, sheet_of, Sound, none, one}
 use Rattle.sheet.specs.declared.reading.CountReading.{CountReading}
-use Rattle.sheet.specs.declared.sheet_read.SheetRead.TheVariants.{Accepted}
 use Rattle.sheet.proofs.LawsFields.{position-range}
 use Rattle.sheet.proofs.LawsReadings.{accepted-whole, accepted-length}
 use Rattle.sheet.proofs.CountSheet.{written-sheet}
@@ -31,7 +31,7 @@ pub length_front : (r : CountReading) → length (take 15 (reading_bytes r)) ≡
 unfolding reading_bytes
 length_front r = refl
 
-pub any-count : (r : CountReading) (high low : ℕ) → Sound r → high < 256 → low < 256 → sheet_read (take 15 (reading_bytes r) ++ (high ∷ low ∷ [])) ≡ Accepted
+pub any-count : (r : CountReading) (high low : ℕ) → Sound r → high < 256 → low < 256 → sheet_read (take 15 (reading_bytes r) ++ (high ∷ low ∷ [])) ≡ Ok tt
 unfolding sheet_of
 any-count r high low h a b =
     let q = counting r (high * 256 + low) in
@@ -56,15 +56,15 @@ unfolding reading_bytes
 before_last r h = (refl, omega (arith, h.count))
 
 -- ---- what an accepted sheet begins with
-begins-with : (s : List ℕ) → sheet_read s ≡ Accepted → 0 < length s → (get_or s 0 0 ≡ 1) × (get_or s 1 0 ≡ 0)
+begins-with : (s : List ℕ) → sheet_read s ≡ Ok tt → 0 < length s → (get_or s 0 0 ≡ 1) × (get_or s 1 0 ≡ 0)
 unfolding readings_in
 begins-with s e l = let w = accepted-whole s 0 e (omega (arith, accepted-length s e)) in (w.first.tagged, w.first.high)
 
-pub without-first : (q : CountReading) (rest : List ℕ) → sheet_read (take 17 (drop 1 (reading_bytes q) ++ rest)) ≡ Accepted → ⊥
+pub without-first : (q : CountReading) (rest : List ℕ) → sheet_read (take 17 (drop 1 (reading_bytes q) ++ rest)) ≡ Ok tt → ⊥
 unfolding reading_bytes
 without-first q rest e = let h : ◌≡◌ {A = ℕ} 0 1 = (begins-with (take 17 (drop 1 (reading_bytes q) ++ rest)) e (omega arith)).0 in omega arith
 
-pub without-two : (q : CountReading) (rest : List ℕ) → Sound q → sheet_read (take 17 (drop 2 (reading_bytes q) ++ rest)) ≡ Accepted → ⊥
+pub without-two : (q : CountReading) (rest : List ℕ) → Sound q → sheet_read (take 17 (drop 2 (reading_bytes q) ++ rest)) ≡ Ok tt → ⊥
 unfolding reading_bytes
 without-two q rest h e =
     let zero-position : q.position ≡ 0 = (begins-with (take 17 (drop 2 (reading_bytes q) ++ rest)) e (omega arith)).1 in

@@ -1,5 +1,6 @@
 -- "Earliest field first, then lowest": the refusal of an input that is not too long, said without the reader. By the rungs of a
 -- field, and by the first field that refuses.
+use Rattle.std.specs.Prelude.{Ok, Err}
 use mathlib.Core.Path.{◌≡◌, refl, sym, ap, ◌∙◌}
 use mathlib.Core.Bool.{Bool, true, false, not, false≢true}
 use mathlib.Core.List.{List}
@@ -15,12 +16,10 @@ use Rattle.identifiers.specs.Choice.{pick}
 use Rattle.identifiers.specs.Refusals.{refusal, number_of}
 use Rattle.identifiers.proofs.LawsChoice.{pick-false}
 use Rattle.identifiers.proofs.LawsRefusals.{refusal-of-number}
-use Rattle.sheet.specs.Fields.{pair_at, cut_short, size_of, wrong_form, sound_content}
+use Rattle.sheet.specs.Fields.{SheetRead, refused_at, pair_at, cut_short, size_of, wrong_form, sound_content}
 use Rattle.sheet.specs.Sheets.{field_offset, field_tag, field_at, fields_begun, sheet_read, applies}
 use Rattle.identifiers.specs.declared.refusal.Refusal.{Refusal}
-use Rattle.sheet.specs.declared.sheet_read.SheetRead.{SheetRead}
-use Rattle.sheet.specs.declared.sheet_read.SheetRead.TheVariants.{Accepted, Refused}
-use Rattle.sheet.proofs.LawsFields.{right-form, content-stands, field-22, field-23, field-24, field-accepted, sound-field, not-accepted}
+use Rattle.sheet.proofs.LawsFields.{right-form, content-stands, field-22, field-23, field-24, field-accepted, sound-field, not-accepted, same-refused}
 use Rattle.sheet.proofs.LawsSheets.{first-all, first-each, first_stops, first_of, sheet-21, sheet-fields}
 use Rattle.sheet.proofs.LawsReadings.{by_three, one_size, two_size, three-size}
 
@@ -77,7 +76,7 @@ module _ (s : List ℕ) (j : ℕ) where
   below-25 c f k m l = ⊎_elim (λ (q : m ≡ 24). ap (applies s j) q ∙ applies-24 ∙ ap not k) (below-24 c f m) (eq-or-lt_of_le (omega arith))
 
   -- ---- the field's answer, and the numbers that apply to it
-  pub accepted-none : field_at s j ≡ Accepted → (m : ℕ) → applies s j m ≡ false
+  pub accepted-none : field_at s j ≡ Ok tt → (m : ℕ) → applies s j m ≡ false
   unfolding field_at cut wrong sound
   accepted-none e m =
       let k = sound-field s (field_offset j) (field_tag j) e in
@@ -87,20 +86,18 @@ module _ (s : List ℕ) (j : ℕ) where
       by-test true h f = f (ltb-true _ _ h)
       by-test false h f = let l : 25 ≤ m = ltb-false _ _ h in applies-other m (λ e. omega arith) (λ e. omega arith) (λ e. omega arith)
 
-  pub none-accepted : ((m : ℕ) → applies s j m ≡ false) → field_at s j ≡ Accepted
+  pub none-accepted : ((m : ℕ) → applies s j m ≡ false) → field_at s j ≡ Ok tt
   unfolding field_at cut wrong sound
   none-accepted h = field-accepted s _ _ (sym applies-22 ∙ h 22) (sym applies-23 ∙ h 23) (not-false _ (sym applies-24 ∙ h 24))
 
-  pub refused-lowest : (why : Refusal) (o : ℕ) → field_at s j ≡ Refused why o → (o ≡ field_offset j) × Lowest s j (number_of why)
+  pub refused-lowest : (why : Refusal) (o : ℕ) → field_at s j ≡ refused_at why o → (o ≡ field_offset j) × Lowest s j (number_of why)
   unfolding field_at cut wrong sound
   refused-lowest why o e = by_tests cut wrong sound refl refl refl
     where
-      is : (x : Refusal) → field_at s j ≡ Refused x (field_offset j) → Lowest s j (number_of x) → (o ≡ field_offset j) × Lowest s j (number_of why)
+      is : (x : Refusal) → field_at s j ≡ refused_at x (field_offset j) → Lowest s j (number_of x) → (o ≡ field_offset j) × Lowest s j (number_of why)
       is x h l =
-          let same : Refused x (field_offset j) ≡ Refused why o = sym h ∙ e in
-          let w : x ≡ why = cc in
-          let p : o ≡ field_offset j = cc in
-          (p, rw w at l)
+          let same = same-refused x why (field_offset j) o (sym h ∙ e) in
+          (sym same.1, rw same.0 at l)
 
       by_tests : (c f k : Bool) → cut ≡ c → wrong ≡ f → sound ≡ k → (o ≡ field_offset j) × Lowest s j (number_of why)
       by_tests true f k p q r = is (refusal 22) (field-22 s _ _ p) (record { given = applies-22 ∙ p; no_lower = below-22 })
@@ -115,15 +112,15 @@ module _ (s : List ℕ) (j : ℕ) where
       let below : n < m → ⊥ = (λ l. false≢true (sym (a.no_lower n l) ∙ b.given)) in
       omega arith
 
-  pub lowest-refused : (why : Refusal) → Lowest s j (number_of why) → field_at s j ≡ Refused why (field_offset j)
+  pub lowest-refused : (why : Refusal) → Lowest s j (number_of why) → field_at s j ≡ refused_at why (field_offset j)
   lowest-refused why l = by_answer (field_at s j) refl
     where
-      by_answer : (v : SheetRead) → field_at s j ≡ v → field_at s j ≡ Refused why (field_offset j)
-      by_answer Accepted e = absurd (false≢true (sym (accepted-none e (number_of why)) ∙ l.given))
-      by_answer (Refused w o) e =
-          let h = refused-lowest w o e in
-          let same : w ≡ why = sym (refusal-of-number w) ∙ ap refusal (lowest-one (number_of w) (number_of why) h.1 l) ∙ refusal-of-number why in
-          e ∙ ap (λ (x : Refusal). Refused x o) same ∙ ap (Refused why) h.0
+      by_answer : (v : SheetRead) → field_at s j ≡ v → field_at s j ≡ refused_at why (field_offset j)
+      by_answer (Ok _) e = absurd (false≢true (sym (accepted-none e (number_of why)) ∙ l.given))
+      by_answer (Err r) e =
+          let h = refused-lowest r.refusal r.offset e in
+          let same : r.refusal ≡ why = sym (refusal-of-number r.refusal) ∙ ap refusal (lowest-one (number_of r.refusal) (number_of why) h.1 l) ∙ refusal-of-number why in
+          e ∙ ap (λ (x : Refusal). refused_at x r.offset) same ∙ ap (refused_at why) h.0
 
   applies-range : (n : ℕ) → applies s j n ≡ true → (22 ≤ n) × (n ≤ 24)
   applies-range n h =
@@ -140,20 +137,20 @@ next-offset j =
     (λ (q : j % 3 ≡ 1). let z : size_of (j % 3 + 1) ≡ 1 = rw q two_size in omega arith)
     (λ (q : j % 3 ≡ 2). let z : size_of (j % 3 + 1) ≡ 6 = rw q three-size in omega arith)
 
-pub field-ends : (s : List ℕ) (j : ℕ) → field_at s j ≡ Accepted → (field_offset j + 3 + pair_at s (field_offset j + 1) ≡ field_offset (j + 1)) × (field_offset (j + 1) ≤ length s)
+pub field-ends : (s : List ℕ) (j : ℕ) → field_at s j ≡ Ok tt → (field_offset j + 3 + pair_at s (field_offset j + 1) ≡ field_offset (j + 1)) × (field_offset (j + 1) ≤ length s)
 unfolding field_at
 field-ends s j e =
     let k = sound-field s (field_offset j) (field_tag j) e in
     let size = (right-form s (field_offset j) (field_tag j) k.form).1 in
     (omega (arith, size, next-offset j), omega (arith, content-stands s (field_offset j) (field_tag j) k.whole k.form, next-offset j))
 
-offset-within : (s : List ℕ) (j : ℕ) → ((i : ℕ) → i < j → field_at s i ≡ Accepted) → field_offset j ≤ length s
+offset-within : (s : List ℕ) (j : ℕ) → ((i : ℕ) → i < j → field_at s i ≡ Ok tt) → field_offset j ≤ length s
 unfolding field_offset
 offset-within s zero h = omega arith
 offset-within s (suc i) h = rw (add-one i) at (field-ends s i (h i (omega arith))).1
 
 -- ---- the whole input
-pub earliest-then-lowest : (s : List ℕ) (why : Refusal) (o : ℕ) → length s ≤ 65535 → sheet_read s ≡ Refused why o → Earliest s (number_of why) o
+pub earliest-then-lowest : (s : List ℕ) (why : Refusal) (o : ℕ) → length s ≤ 65535 → sheet_read s ≡ refused_at why o → Earliest s (number_of why) o
 earliest-then-lowest s why o h e =
     let r = first_of (field_at s) (fields_begun s) why o (sym (sheet-fields s h) ∙ e) in
     let l = refused-lowest s r.place why o r.refused in
@@ -165,13 +162,13 @@ earliest-then-lowest s why o h e =
       lowest = l.1;
     }
 
-pub earliest-refused : (s : List ℕ) (why : Refusal) (o : ℕ) → length s ≤ 65535 → Earliest s (number_of why) o → sheet_read s ≡ Refused why o
+pub earliest-refused : (s : List ℕ) (why : Refusal) (o : ℕ) → length s ≤ 65535 → Earliest s (number_of why) o → sheet_read s ≡ refused_at why o
 earliest-refused s why o h e =
     sheet-fields s h
     ∙ first_stops (field_at s) e.field (fields_begun s) why o e.begun (first-each (field_at s) e.field (λ i l. none-accepted s i (λ m. e.earlier i m l)))
-    (lowest-refused s e.field why e.lowest ∙ ap (Refused why) (sym e.place))
+    (lowest-refused s e.field why e.lowest ∙ ap (refused_at why) (sym e.place))
 
-pub refused-range : (s : List ℕ) (why : Refusal) (o : ℕ) → length s ≤ 65535 → sheet_read s ≡ Refused why o → ((22 ≤ number_of why) × (number_of why ≤ 24)) × (o ≤ length s)
+pub refused-range : (s : List ℕ) (why : Refusal) (o : ℕ) → length s ≤ 65535 → sheet_read s ≡ refused_at why o → ((22 ≤ number_of why) × (number_of why ≤ 24)) × (o ≤ length s)
 refused-range s why o h e =
     let r = earliest-then-lowest s why o h e in
     (applies-range s r.field (number_of why) r.lowest.given, rw r.place (offset-within s r.field (λ i l. none-accepted s i (λ m. r.earlier i m l))))
@@ -181,15 +178,13 @@ pub record Small (why : Refusal) (offset : ℕ) : Type 0 where
   pub number : number_of why ≤ 24
   pub place : offset ≤ 65535
 
-pub refused-small : (s : List ℕ) (why : Refusal) (offset : ℕ) → sheet_read s ≡ Refused why offset → Small why offset
+pub refused-small : (s : List ℕ) (why : Refusal) (offset : ℕ) → sheet_read s ≡ refused_at why offset → Small why offset
 refused-small s why offset e = by_length (ltb 65535 (length s)) refl
   where
     by_length : (t : Bool) → ltb 65535 (length s) ≡ t → Small why offset
     by_length true h =
-        let same : Refused (refusal 21) 0 ≡ Refused why offset = sym (sheet-21 s (ltb-true _ _ h)) ∙ e in
-        let w : refusal 21 ≡ why = cc in
-        let o : 0 ≡ offset = cc in
-        record { number = omega (arith, ap number_of w); place = omega arith }
+        let same = same-refused (refusal 21) why 0 offset (sym (sheet-21 s (ltb-true _ _ h)) ∙ e) in
+        record { number = omega (arith, ap number_of same.0); place = omega (arith, same.1) }
     by_length false h =
         let l : length s ≤ 65535 = ltb-false _ _ h in
         let r = refused-range s why offset l e in

@@ -1,32 +1,21 @@
 -- Laws of one field: the rungs of its refusals, one law each, and where the bytes of a field that passes a rung stand.
-use mathlib.Core.Path.{◌≡◌, refl, sym, ap, ◌∙◌}
+use Rattle.std.specs.Prelude.{Ok}
+use mathlib.Core.Path.{◌≡◌, sym, ap, ◌∙◌}
 use mathlib.Core.Bool.{true, false, not}
 use mathlib.Core.List.{List}
 use Prim.Native.Nat.{ℕ, ◌+◌, ◌-◌, ◌*◌, ◌≤◌, ◌<◌}
 use native.Mathlib.Omega.{arith}
-use borrow.Author.Tests.{leb-true, ltb-false, eqb-true, lt-ltb, le-ltb, eq-eqb, ne_eqb, not-false}
-use lib.Dec.{ltb}
-use lib.ListN.{length, get_or}
+use borrow.Author.Tests.{leb-true, ltb-false, eqb-true, le-ltb, eq-eqb, ne_eqb, not-false}
+use lib.ListN.{length, get_or, take, drop, length-drop}
+use lib.Seq.{take_all, get_or-drop}
 use Rattle.identifiers.specs.Refusals.{refusal}
 use Rattle.identifiers.specs.declared.refusal.Refusal.{Refusal}
-use Rattle.identifiers.proofs.LawsChoice.{pick_true, pick-false, was-passed, was-taken, both_true, left-holds, right-decides, either-false}
-use Rattle.sheet.specs.Fields.{pair_at, bytes_left, cut_short, size_of, wrong_form, sound_position, sound_response, sound_content, field_read}
-use Rattle.sheet.specs.declared.sheet_read.SheetRead.TheVariants.{Accepted, Refused}
+use Rattle.sheet.specs.declared.sheet_read.RefusedAt.{RefusedAt}
+use Rattle.identifiers.proofs.LawsChoice.{pick_true, pick-false, was-passed, was-taken, both_true, right-decides, either-false}
+use Rattle.sheet.specs.Fields.{refused_at, pair_at, cut_short, size_of, wrong_form, sound_position, sound_response, sound_content, field_read}
 
 -- ---- 22
-pub cut-head : (s : List ℕ) (at : ℕ) → bytes_left s at < 3 → true ≡ cut_short s at
-unfolding cut_short
-cut-head s at h = left-holds _ (lt-ltb _ _ h)
-
-pub cut-content : (s : List ℕ) (at : ℕ) → 3 ≤ bytes_left s at → ltb (bytes_left s at - 3) (pair_at s (at + 1)) ≡ cut_short s at
-unfolding cut_short
-cut-content s at h = right-decides (le-ltb _ _ h) refl
-
 -- a field that is not cut short stands whole in the input
-pub uncut-head : (s : List ℕ) (at : ℕ) → cut_short s at ≡ false → at + 3 ≤ length s
-unfolding cut_short
-uncut-head s at e = let h : 3 ≤ length s - at = ltb-false _ _ (either-false _ _ e).0 in omega arith
-
 pub uncut-whole : (s : List ℕ) (at : ℕ) → cut_short s at ≡ false → at + 3 + pair_at s (at + 1) ≤ length s
 unfolding cut_short
 uncut-whole s at e =
@@ -80,34 +69,50 @@ pub content-mask : (s : List ℕ) (at tag : ℕ) → (tag ≡ 1 → ⊥) → (ta
 unfolding sound_content
 content-mask s at tag n m = pick-false _ _ (ne_eqb _ _ n) ∙ pick-false _ _ (ne_eqb _ _ m)
 
+-- the content behind the three bytes of a field's head
+moved : (s : List ℕ) (at i : ℕ) → get_or (drop 3 (drop at s)) i 0 ≡ get_or s (at + 3 + i) 0
+moved s at i = get_or-drop 3 (drop at s) i 0 ∙ get_or-drop at s (3 + i) 0 ∙ ap (λ (k : ℕ). get_or s k 0) (omega arith)
+
+pub content_behind : (s : List ℕ) (at tag : ℕ) → sound_content s (at + 3) tag ≡ sound_content (take (length (drop at s) - 3) (drop 3 (drop at s))) 0 tag
+unfolding sound_content sound_response
+content_behind s at tag =
+    let whole = take_all (length (drop at s) - 3) (drop 3 (drop at s)) (simp length-drop (omega arith)) in
+    let first : get_or (drop 3 (drop at s)) 0 0 ≡ get_or s (at + 3) 0 = moved s at 0 ∙ ap (λ (k : ℕ). get_or s k 0) (omega arith) in
+    rw (whole, first, moved s at 1, moved s at 2, moved s at 3)
+
 -- ---- the rungs
 module _ (s : List ℕ) (at tag : ℕ) where
-  pub field-22 : cut_short s at ≡ true → field_read s at tag ≡ Refused (refusal 22) at
+  pub field-22 : cut_short s at ≡ true → field_read s at tag ≡ refused_at (refusal 22) at
   unfolding field_read
   field-22 c = pick_true _ _ c
 
-  pub field-23 : cut_short s at ≡ false → wrong_form s at tag ≡ true → field_read s at tag ≡ Refused (refusal 23) at
+  pub field-23 : cut_short s at ≡ false → wrong_form s at tag ≡ true → field_read s at tag ≡ refused_at (refusal 23) at
   unfolding field_read
   field-23 c f = pick-false _ _ c ∙ pick_true _ _ f
 
-  pub field-24 : cut_short s at ≡ false → wrong_form s at tag ≡ false → sound_content s (at + 3) tag ≡ false → field_read s at tag ≡ Refused (refusal 24) at
+  pub field-24 : cut_short s at ≡ false → wrong_form s at tag ≡ false → sound_content s (at + 3) tag ≡ false → field_read s at tag ≡ refused_at (refusal 24) at
   unfolding field_read
   field-24 c f k = pick-false _ _ c ∙ pick-false _ _ f ∙ pick-false _ _ k
 
-  pub field-accepted : cut_short s at ≡ false → wrong_form s at tag ≡ false → sound_content s (at + 3) tag ≡ true → field_read s at tag ≡ Accepted
+  pub field-accepted : cut_short s at ≡ false → wrong_form s at tag ≡ false → sound_content s (at + 3) tag ≡ true → field_read s at tag ≡ Ok tt
   unfolding field_read
   field-accepted c f k = pick-false _ _ c ∙ pick-false _ _ f ∙ pick_true _ _ k
 
 -- ---- what an accepted field has
-pub not-accepted : (why : Refusal) (o : ℕ) → Refused why o ≡ Accepted → ⊥
-not-accepted why o e = let z : ◌≡◌ {A = ℕ} 0 1 = cc in omega arith
+pub not-accepted : (why : Refusal) (o : ℕ) → refused_at why o ≡ Ok tt → ⊥
+not-accepted why o e = cc
+
+pub same-refused : (v w : Refusal) (o p : ℕ) → refused_at v o ≡ refused_at w p → (v ≡ w) × (o ≡ p)
+same-refused v w o p e =
+    let same : ◌≡◌ {A = RefusedAt} (record { refusal = v; offset = o }) (record { refusal = w; offset = p }) = cc in
+    (ap (λ (r : RefusedAt). r.refusal) same, ap (λ (r : RefusedAt). r.offset) same)
 
 pub record SoundField (s : List ℕ) (at tag : ℕ) : Type 0 where
   pub whole : cut_short s at ≡ false
   pub form : wrong_form s at tag ≡ false
   pub content : sound_content s (at + 3) tag ≡ true
 
-pub sound-field : (s : List ℕ) (at tag : ℕ) → field_read s at tag ≡ Accepted → SoundField s at tag
+pub sound-field : (s : List ℕ) (at tag : ℕ) → field_read s at tag ≡ Ok tt → SoundField s at tag
 unfolding field_read
 sound-field s at tag e =
     let a = was-passed _ _ _ _ (not-accepted (refusal 22) at) e in
@@ -128,7 +133,7 @@ sound-head s at tag size z l k =
     let place : at + 2 ≡ at + 1 + 1 = omega arith in
     record { tagged = f.0; high = omega arith; low = rw place (omega arith) }
 
-pub head-accepted : (s : List ℕ) (at tag size : ℕ) → size_of tag ≡ size → at + 3 + size ≤ length s → sound_content s (at + 3) tag ≡ true → Head s at tag size → field_read s at tag ≡ Accepted
+pub head-accepted : (s : List ℕ) (at tag size : ℕ) → size_of tag ≡ size → at + 3 + size ≤ length s → sound_content s (at + 3) tag ≡ true → Head s at tag size → field_read s at tag ≡ Ok tt
 head-accepted s at tag size z l k h =
     let place : at + 1 + 1 ≡ at + 2 = omega arith in
     let low : get_or s (at + 1 + 1) 0 ≡ size = rw place h.low in

@@ -1,4 +1,5 @@
 -- Sheets joined and parted: an accepted sheet behind another is accepted, and so is every run of whole readings of an accepted sheet.
+use Rattle.std.specs.Prelude.{Ok}
 use mathlib.Core.Path.{◌≡◌, refl, sym, ap, ◌∙◌}
 use mathlib.Core.Bool.{Bool, true, false}
 use mathlib.Core.List.{List, ◌++◌}
@@ -11,7 +12,6 @@ use lib.Seq.{length-take-le, take_all, take-append_seam, get_or-append-add, get_
 use Rattle.sheet.specs.Fields.{sound_position, sound_response}
 use Rattle.sheet.specs.Sheets.{sheet_read}
 use Rattle.sheet.specs.Readings.{readings_in}
-use Rattle.sheet.specs.declared.sheet_read.SheetRead.TheVariants.{Accepted}
 use Rattle.sheet.proofs.LawsFields.{Head}
 use Rattle.sheet.proofs.LawsSheets.{accepted-short}
 use Rattle.sheet.proofs.LawsReadings.{Whole, accepted-whole, accepted-length, whole-accepted}
@@ -53,7 +53,7 @@ module _ (s t : List ℕ) (at to : ℕ) (same : (i : ℕ) → i < 17 → get_or 
       }
 
 -- ---- a run of whole readings
-pub accepted-part : (s : List ℕ) (k n : ℕ) → sheet_read s ≡ Accepted → 17 * (k + n) ≤ length s → sheet_read (take (17 * n) (drop (17 * k) s)) ≡ Accepted
+pub accepted-part : (s : List ℕ) (k n : ℕ) → sheet_read s ≡ Ok tt → 17 * (k + n) ≤ length s → sheet_read (take (17 * n) (drop (17 * k) s)) ≡ Ok tt
 unfolding readings_in
 accepted-part s k n e l =
     let whole = accepted-length s e in
@@ -69,13 +69,13 @@ accepted-part s k n e l =
         ∙ ap (λ (p : ℕ). get_or s p 0) (omega arith)
 
 -- the first reading, and those behind it
-pub accepted-first : (s : List ℕ) → sheet_read s ≡ Accepted → 0 < length s → (17 ≤ length s) × (sheet_read (take 17 s) ≡ Accepted)
+pub accepted-first : (s : List ℕ) → sheet_read s ≡ Ok tt → 0 < length s → (17 ≤ length s) × (sheet_read (take 17 s) ≡ Ok tt)
 accepted-first s e l = let one : 17 ≤ length s = omega (arith, accepted-length s e) in (one, accepted-part s 0 1 e one)
 
-pub accepted-behind : (s : List ℕ) → sheet_read s ≡ Accepted → sheet_read (drop 17 s) ≡ Accepted
+pub accepted-behind : (s : List ℕ) → sheet_read s ≡ Ok tt → sheet_read (drop 17 s) ≡ Ok tt
 accepted-behind s e = by_length (length s) refl
   where
-    by_length : (n : ℕ) → length s ≡ n → sheet_read (drop 17 s) ≡ Accepted
+    by_length : (n : ℕ) → length s ≡ n → sheet_read (drop 17 s) ≡ Ok tt
     by_length zero h = let short : length s ≤ 17 = omega arith in ap sheet_read (drop_of_length-le s short) ∙ accepted-part s 0 0 e (omega arith)
     by_length (suc n) h =
         let more = accepted-length s e in
@@ -83,7 +83,7 @@ accepted-behind s e = by_length (length s) refl
         ap sheet_read (sym (take_all (17 * k) (drop 17 s) (omega (arith, length-drop 17 s)))) ∙ accepted-part s 1 k e (omega arith)
 
 -- ---- one behind the other
-pub accepted-append : (a b : List ℕ) → sheet_read a ≡ Accepted → sheet_read b ≡ Accepted → length (a ++ b) ≤ 65535 → sheet_read (a ++ b) ≡ Accepted
+pub accepted-append : (a b : List ℕ) → sheet_read a ≡ Ok tt → sheet_read b ≡ Ok tt → length (a ++ b) ≤ 65535 → sheet_read (a ++ b) ≡ Ok tt
 accepted-append a b p q l =
     let first = accepted-length a p in
     let second = accepted-length b q in

@@ -1,4 +1,5 @@
 -- Laws of the whole text: what an accepted and a refused input print, and that it fits the page.
+use Rattle.std.specs.Prelude.{Ok, Err}
 use mathlib.Core.Path.{◌≡◌, refl, ap}
 use mathlib.Core.List.{List, ◌++◌}
 use Prim.Native.Nat.{ℕ, zero, suc, ◌*◌, ◌≤◌}
@@ -10,24 +11,23 @@ use Rattle.identifiers.proofs.LawsBelow.{list-none, list-suc}
 use Rattle.identifiers.proofs.LawsBytes.{keeps-length, puts_whole}
 use Rattle.text.specs.Digits.{decimal_in, hex, blank}
 use Rattle.text.proofs.LawsDigits.{length-decimal-in, length-hex}
+use Rattle.sheet.specs.Fields.{SheetRead, refused_at}
 use Rattle.sheet.specs.Basis.{basis_of}
 use Rattle.sheet.specs.Sheets.{sheet_read}
 use Rattle.sheet.specs.Readings.{readings_in, reading_of}
 use Rattle.sheet.specs.Text.{page_size, header, word_of, numbers_of, line_of, refusal_line}
 use Rattle.sheet.specs.Printed.{lines_of, printed_as, printed}
 use Rattle.identifiers.specs.declared.refusal.Refusal.{Refusal}
-use Rattle.sheet.specs.declared.sheet_read.SheetRead.{SheetRead}
-use Rattle.sheet.specs.declared.sheet_read.SheetRead.TheVariants.{Accepted, Refused}
 use Rattle.sheet.specs.declared.basis.Basis.{Basis}
 use Rattle.sheet.specs.declared.basis.Basis.TheVariants.{None, Full, Part}
 use Rattle.sheet.specs.declared.reading.CountReading.{CountReading}
 use Rattle.sheet.proofs.LawsSheets.{accepted-short}
 
-pub printed-accepted : (s : List ℕ) → sheet_read s ≡ Accepted → printed s ≡ header ++ lines_of s (readings_in s)
+pub printed-accepted : (s : List ℕ) → sheet_read s ≡ Ok tt → printed s ≡ header ++ lines_of s (readings_in s)
 unfolding printed printed_as
 printed-accepted s e = rw e
 
-pub printed-refused : (s : List ℕ) (why : Refusal) (o : ℕ) → sheet_read s ≡ Refused why o → printed s ≡ refusal_line (number_of why) o
+pub printed-refused : (s : List ℕ) (why : Refusal) (o : ℕ) → sheet_read s ≡ refused_at why o → printed s ≡ refusal_line (number_of why) o
 unfolding printed printed_as
 printed-refused s why o e = rw e
 
@@ -68,9 +68,9 @@ unfolding readings_in
 printed-fits s = by_answer (sheet_read s) refl
   where
     by_answer : (v : SheetRead) → sheet_read s ≡ v → length (printed s) ≤ page_size
-    by_answer Accepted e =
+    by_answer (Ok _) e =
         omega (arith, ap length (printed-accepted s e), length-append header (lines_of s (readings_in s)), length-lines s (readings_in s), accepted-short s e)
-    by_answer (Refused why o) e = omega (arith, ap length (printed-refused s why o e), length-refusal (number_of why) o)
+    by_answer (Err r) e = omega (arith, ap length (printed-refused s r.refusal r.offset e), length-refusal (number_of r.refusal) r.offset)
 
 -- of a text that fits the page: the place after its last byte lies in the page, and the page up to there is the text, no more and no less
 pub text-fits : {page after text : List ℕ} {end : ℕ} → length text ≤ page_size → length page ≡ page_size → Puts page 0 text end after → end ≤ length after

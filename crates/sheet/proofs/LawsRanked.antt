@@ -1,36 +1,34 @@
 -- Laws of the page's text: what an accepted and a refused input give, its lines one after the other, and that it fits the page.
+use Rattle.std.specs.Prelude.{Ok, Err}
 use mathlib.Core.Path.{◌≡◌, refl, sym, ap, ◌∙◌}
 use mathlib.Core.Bool.{Bool, true, false}
 use mathlib.Core.List.{List, [], ◌∷◌, ◌++◌, map, map-append, append_assoc, append-nil}
-use Prim.Native.Nat.{ℕ, ◌+◌, ◌-◌, ◌*◌, ◌≤◌, ◌<◌}
+use Prim.Native.Nat.{ℕ, ◌+◌, ◌*◌, ◌≤◌, ◌<◌}
 use native.Mathlib.Numerals.{add-one}
 use native.Mathlib.Omega.{arith}
-use lib.ListN.{length, length-append, length-map, length-drop, take, drop, get_or}
-use lib.Seq.{take-suc, take_all, length-take-le, get_or-drop}
+use lib.ListN.{length, length-append, length-map, take, get_or}
+use lib.Seq.{take-suc}
 use Rattle.identifiers.specs.Bytes.{Puts}
 use Rattle.identifiers.specs.Refusals.{number_of}
-use Rattle.identifiers.proofs.LawsBelow.{list-none, list-suc}
 use Rattle.identifiers.proofs.LawsChoice.{both_true, so}
 use Rattle.order.specs.Order.{places_below}
 use Rattle.order.proofs.LawsKeep.{length-by}
 use Rattle.order.proofs.LawsPlaces.{length-apart}
+use Rattle.sheet.specs.Fields.{SheetRead, refused_at}
 use Rattle.sheet.specs.Sheets.{sheet_read}
 use Rattle.sheet.specs.Readings.{readings_in, reading_of}
 use Rattle.sheet.specs.Text.{page_size, header, line_of, refusal_line}
-use Rattle.sheet.specs.Printed.{lines_of}
 use Rattle.sheet.specs.Ranked.{ranks, excludes, ranked, excluded, lines, lines_at, ranked_as, ranked_text}
 use Rattle.identifiers.specs.declared.refusal.Refusal.{Refusal}
 use Rattle.sheet.specs.declared.reading.CountReading.{CountReading}
-use Rattle.sheet.specs.declared.sheet_read.SheetRead.{SheetRead}
-use Rattle.sheet.specs.declared.sheet_read.SheetRead.TheVariants.{Accepted, Refused}
 use Rattle.sheet.proofs.LawsSheets.{accepted-short}
 use Rattle.sheet.proofs.LawsPrinted.{length-line, length-refusal, text-fits, text-whole}
 
-pub ranked-accepted : (s : List ℕ) (mask : ℕ) → sheet_read s ≡ Accepted → ranked_text s mask ≡ header ++ lines_at s (ranked s mask ++ excluded s mask)
+pub ranked-accepted : (s : List ℕ) (mask : ℕ) → sheet_read s ≡ Ok tt → ranked_text s mask ≡ header ++ lines_at s (ranked s mask ++ excluded s mask)
 unfolding ranked_text ranked_as
 ranked-accepted s mask e = rw e
 
-pub ranked-refused : (s : List ℕ) (mask : ℕ) (why : Refusal) (o : ℕ) → sheet_read s ≡ Refused why o → ranked_text s mask ≡ refusal_line (number_of why) o
+pub ranked-refused : (s : List ℕ) (mask : ℕ) (why : Refusal) (o : ℕ) → sheet_read s ≡ refused_at why o → ranked_text s mask ≡ refusal_line (number_of why) o
 unfolding ranked_text ranked_as
 ranked-refused s mask why o e = rw e
 
@@ -47,24 +45,6 @@ lines-append (r ∷ rs) qs = ap (λ (l : List ℕ). line_of r ++ l) (lines-appen
 lines-one : (r : CountReading) → lines (r ∷ []) ≡ line_of r
 unfolding lines
 lines-one r = append-nil (line_of r)
-
--- the sheet that begins at a reading: how long it is, and that its first line is that reading's
-pub length-behind : (s : List ℕ) (at : ℕ) → length (take (length s - at) (drop at s)) ≡ length s - at
-length-behind s at = length-take-le _ _ (omega (arith, length-drop at s))
-
-reading-behind : (s : List ℕ) (k : ℕ) → reading_of (drop (17 * k) s) 0 ≡ reading_of s k
-unfolding reading_of
-reading-behind s k =
-    let next : 17 * k + 16 ≡ 17 * k + 15 + 1 = omega arith in
-    rw (get_or-drop (17 * k) s 3 0, get_or-drop (17 * k) s 7 0, get_or-drop (17 * k) s 13 0, get_or-drop (17 * k) s 15 0, get_or-drop (17 * k) s 16 0, next)
-
-pub line-behind : (s : List ℕ) (k : ℕ) → lines_of (take (length s - 17 * k) (drop (17 * k) s)) 1 ≡ line_of (reading_of s k)
-line-behind s k =
-    let whole = take_all (length s - 17 * k) (drop (17 * k) s) (omega (arith, length-drop (17 * k) s)) in
-    ap (λ (l : List ℕ). lines_of l 1) whole
-    ∙ list-suc _ 0
-    ∙ ap (λ (l : List ℕ). l ++ line_of (reading_of (drop (17 * k) s) 0)) (list-none _)
-    ∙ ap line_of (reading-behind s k)
 
 -- one place more
 pub lines_more : (s places : List ℕ) (i : ℕ) → i < length places → lines_at s (take (i + 1) places) ≡ lines_at s (take i places) ++ line_of (reading_of s (get_or places i 0))
@@ -99,10 +79,10 @@ unfolding readings_in
 ranked-fits s mask = by_answer (sheet_read s) refl
   where
     by_answer : (v : SheetRead) → sheet_read s ≡ v → length (ranked_text s mask) ≤ page_size
-    by_answer Accepted e =
+    by_answer (Ok _) e =
         let places = ranked s mask ++ excluded s mask in
         omega (arith, ap length (ranked-accepted s mask e), length-append header (lines_at s places), length-lines (map (reading_of s) places), length-map places (reading_of s), places-fit s mask, accepted-short s e)
-    by_answer (Refused why o) e = omega (arith, ap length (ranked-refused s mask why o e), length-refusal (number_of why) o)
+    by_answer (Err r) e = omega (arith, ap length (ranked-refused s mask r.refusal r.offset e), length-refusal (number_of r.refusal) r.offset)
 
 pub rank-fits : {page after : List ℕ} {end : ℕ} (s : List ℕ) (mask : ℕ) → length page ≡ page_size → Puts page 0 (ranked_text s mask) end after → end ≤ length after
 rank-fits s mask = text-fits (ranked-fits s mask)

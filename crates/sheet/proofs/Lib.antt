@@ -12,6 +12,7 @@ pub mod Worked
 pub mod CountSheet
 pub mod LawsStanding
 pub mod LawsGathered
+pub mod LawsChunks
 pub mod LawsRanked
 pub mod LawsPages
 pub mod RankedPage

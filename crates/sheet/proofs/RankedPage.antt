@@ -1,5 +1,6 @@
 -- The page of one mask (document 02, 2026-01): it is what the sentences say, no other page is so, and what that means for the buyer. Each statement
 -- can be read without its proof; the sentences stand in specs/Pages.
+use Rattle.std.specs.Prelude.{Ok}
 use mathlib.Core.Path.{◌≡◌, refl, sym, ap, ap₂, ◌∙◌}
 use mathlib.Core.Bool.{Bool}
 use mathlib.Core.List.{List, [], ◌∷◌, ◌++◌}
@@ -17,6 +18,7 @@ use Rattle.order.proofs.LawsTimes.{times-here, times-append, in-front}
 use Rattle.order.proofs.LawsPlaces.{no-places, places_same, once, never-past}
 use Rattle.order.proofs.LawsOrdered.{places-ordered, two-of}
 use Rattle.order.proofs.RankedPlaces as rankings
+use Rattle.sheet.specs.Fields.{refused_at}
 use Rattle.sheet.specs.Sheets.{sheet_read}
 use Rattle.sheet.specs.Readings.{readings_in, reading_of}
 use Rattle.sheet.specs.Text.{page_size, header}
@@ -25,7 +27,6 @@ use Rattle.sheet.specs.Ranked.{asks, ranks, excludes, places_of, ranked, exclude
 use Rattle.sheet.specs.Pages.{count_at, basis_at, Page}
 use Rattle.identifiers.specs.declared.refusal.Refusal.{Refusal}
 use Rattle.sheet.specs.declared.basis.Basis.TheVariants.{Full}
-use Rattle.sheet.specs.declared.sheet_read.SheetRead.TheVariants.{Accepted, Refused}
 use Rattle.sheet.proofs.LawsStands.{Bytes}
 use Rattle.sheet.proofs.LawsStanding.{count_small}
 use Rattle.sheet.proofs.LawsPages.{ranks-is, is-ranks, in-one-half, was-picked, above-ranks, below-ranks, on-the-sheet, asked-at, none-ranked, all-excluded}
@@ -58,7 +59,7 @@ module _ (s : List ℕ) (mask : ℕ) (bytes : Bytes s) where
   one-page p = (rankings.one-ranking _ _ _ _ _ (above-ranks s mask p) by_count, rankings.one-ranking _ _ _ _ _ (below-ranks s mask p) (below-ranks s mask page))
 
   -- so the text is the header and the lines of any page that is so
-  pub page-text : {above below : List ℕ} → sheet_read s ≡ Accepted → Page s mask above below → ranked_text s mask ≡ header ++ lines_at s (above ++ below)
+  pub page-text : {above below : List ℕ} → sheet_read s ≡ Ok tt → Page s mask above below → ranked_text s mask ≡ header ++ lines_at s (above ++ below)
   page-text e p = let same = one-page p in ranked-accepted s mask e ∙ sym (ap₂ (λ (r e : List ℕ). header ++ lines_at s (r ++ e)) same.0 same.1)
 
 -- ---- a reading that is not full never stands above one that is
@@ -87,7 +88,7 @@ mask-00 s = (
 )
 
 -- ---- "Refusals: those of the sheet, 21 to 24.": the count sheet's own line, whatever the mask
-pub refused-page : (s : List ℕ) (mask : ℕ) (why : Refusal) (offset : ℕ) → sheet_read s ≡ Refused why offset → ranked_text s mask ≡ printed s
+pub refused-page : (s : List ℕ) (mask : ℕ) (why : Refusal) (offset : ℕ) → sheet_read s ≡ refused_at why offset → ranked_text s mask ≡ printed s
 refused-page s mask why offset e = ranked-refused s mask why offset e ∙ sym (printed-refused s why offset e)
 
 -- ---- where the lent page holds the text as `rank`'s contract says, that is the whole text, and every byte after it is as it was

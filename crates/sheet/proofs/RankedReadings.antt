@@ -1,5 +1,6 @@
 -- The page goes by the readings of its mask alone (document 02, 2026-01, "readings of other masks don't appear"): a reading of another mask, added to the
 -- sheet wherever it may be, changes no line. Every accepted sheet is readings written one after the other, so the statements are of these.
+use Rattle.std.specs.Prelude.{Ok}
 use mathlib.Core.Path.{◌≡◌, refl, sym, ap, ap₂, ◌∙◌}
 use mathlib.Core.Bool.{Bool, false}
 use mathlib.Core.List.{List, [], ◌∷◌, ◌++◌, map, map-append, append_assoc, append-nil}
@@ -20,7 +21,6 @@ use Rattle.sheet.specs.Readings.{readings_in, reading_of, reading_bytes, sheet_o
 use Rattle.sheet.specs.Text.{header}
 use Rattle.sheet.specs.Ranked.{asks, ranks, excludes, places_of, ranked, excluded, lines, ranked_text}
 use Rattle.sheet.specs.declared.reading.CountReading.{CountReading}
-use Rattle.sheet.specs.declared.sheet_read.SheetRead.TheVariants.{Accepted}
 use Rattle.sheet.proofs.LawsStands.{Bytes}
 use Rattle.sheet.proofs.LawsRanked.{ranked-accepted}
 use Rattle.sheet.proofs.CountSheet.{accepted-sheet, written-sheet}
@@ -108,7 +108,7 @@ written_below f (suc n) h =
       is = list-suc _ n ∙ ap₂ ◌++◌ w.is (sym (append-nil (reading_bytes (f n)))) ∙ sym (sheet-append w.readings (f n ∷ []));
     }
 
-pub accepted-written : (s : List ℕ) → Bytes s → sheet_read s ≡ Accepted → (rs : List CountReading) × (EachSound rs × ((length rs ≤ 3855) × (s ≡ sheet_of rs)))
+pub accepted-written : (s : List ℕ) → Bytes s → sheet_read s ≡ Ok tt → (rs : List CountReading) × (EachSound rs × ((length rs ≤ 3855) × (s ≡ sheet_of rs)))
 accepted-written s b e =
     let a = accepted-sheet s b e in
     let w = written_below (reading_of s) (readings_in s) a.sound in

@@ -13,12 +13,11 @@ use Rattle.text.specs.Digits.{decimal_in, hex_digit, hex}
 use Rattle.server.specs.Mask.{sound_mask}
 use Rattle.server.proofs.LawsMask.{mask-rule}
 use Rattle.sheet.specs.Basis.{basis_of}
-use Rattle.sheet.specs.Fields.{cut_short, size_of, wrong_form, sound_position, sound_response, sound_content, field_read}
+use Rattle.sheet.specs.Fields.{refused_at, cut_short, size_of, wrong_form, sound_position, sound_response, sound_content, field_read}
 use Rattle.sheet.specs.Sheets.{field_offset, field_tag, field_at, fields_begun, or_next, first_refused, sheet_read}
 use Rattle.sheet.specs.Readings.{readings_in, reading_of}
 use Rattle.sheet.specs.Text.{header, word_of, numbers_of, line_of, refusal_line}
 use Rattle.sheet.specs.Printed.{printed_as, printed}
-use Rattle.sheet.specs.declared.sheet_read.SheetRead.TheVariants.{Refused}
 
 abbrev first : List ℕ
 first = 0x01 ∷ 0x00 ∷ 0x01 ∷ 0x01 ∷ 0x02 ∷ 0x00 ∷ 0x01 ∷ 0x08 ∷ 0x03 ∷ 0x00 ∷ 0x06 ∷ 0x59 ∷ 0x01 ∷ 0x7F ∷ 0x03 ∷ 0x00 ∷ 0x02 ∷ []
@@ -35,12 +34,12 @@ pub record Worked : Type 0 where
   -- "Empty input prints the header"
   pub empty : printed [] ≡ header
   -- a stray byte after a reading, the end between two fields, and a length that no byte fills under a wrong tag
-  pub stray : sheet_read (first ++ (0x01 ∷ [])) ≡ Refused (refusal 22) 17
-  pub between : sheet_read (0x01 ∷ 0x00 ∷ 0x01 ∷ 0x01 ∷ []) ≡ Refused (refusal 22) 4
-  pub unfilled : sheet_read (0x09 ∷ 0xFF ∷ 0xFF ∷ 0x01 ∷ []) ≡ Refused (refusal 22) 0
+  pub stray : sheet_read (first ++ (0x01 ∷ [])) ≡ refused_at (refusal 22) 17
+  pub between : sheet_read (0x01 ∷ 0x00 ∷ 0x01 ∷ 0x01 ∷ []) ≡ refused_at (refusal 22) 4
+  pub unfilled : sheet_read (0x09 ∷ 0xFF ∷ 0xFF ∷ 0x01 ∷ []) ≡ refused_at (refusal 22) 0
   -- the mask asked where the position is due; a position 6 before an end that is too early
-  pub tag : sheet_read (first ++ (0x02 ∷ 0x00 ∷ 0x01 ∷ 0x01 ∷ [])) ≡ Refused (refusal 23) 17
-  pub position : sheet_read (0x01 ∷ 0x00 ∷ 0x01 ∷ 0x06 ∷ []) ≡ Refused (refusal 24) 0
+  pub tag : sheet_read (first ++ (0x02 ∷ 0x00 ∷ 0x01 ∷ 0x01 ∷ [])) ≡ refused_at (refusal 23) 17
+  pub position : sheet_read (0x01 ∷ 0x00 ∷ 0x01 ∷ 0x06 ∷ []) ≡ refused_at (refusal 24) 0
   -- "refused 22 at 17"
   pub refused : printed (first ++ (0x01 ∷ [])) ≡ 114 ∷ 101 ∷ 102 ∷ 117 ∷ 115 ∷ 101 ∷ 100 ∷ 32 ∷ 50 ∷ 50 ∷ 32 ∷ 97 ∷ 116 ∷ 32 ∷ 49 ∷ 55 ∷ 10 ∷ []
 

@@ -1,16 +1,15 @@
 -- The page of one mask (document 02, 2026-01): its readings whose basis is full, lowest count first, then the excluded ones.
-use Rattle.std.specs.Prelude.{Bool, true, false, not, List, [], ◌∷◌, ◌++◌, map, ℕ, eqb}
+use Rattle.std.specs.Prelude.{Bool, true, false, not, List, [], ◌∷◌, ◌++◌, map, ℕ, eqb, Ok, Err}
 use Rattle.identifiers.specs.Choice.{both}
 use Rattle.identifiers.specs.Refusals.{number_of}
 use Rattle.order.specs.Order.{by_key, places_below}
+use Rattle.sheet.specs.Fields.{SheetRead}
 use Rattle.sheet.specs.Basis.{basis_of}
 use Rattle.sheet.specs.Sheets.{sheet_read}
 use Rattle.sheet.specs.Readings.{readings_in, reading_of}
 use Rattle.sheet.specs.Text.{header, line_of, refusal_line}
 use Rattle.sheet.specs.declared.basis.Basis.{Basis}
 use Rattle.sheet.specs.declared.basis.Basis.TheVariants.{None, Full, Part}
-use Rattle.sheet.specs.declared.sheet_read.SheetRead.{SheetRead}
-use Rattle.sheet.specs.declared.sheet_read.SheetRead.TheVariants.{Accepted, Refused}
 use Rattle.sheet.specs.declared.reading.CountReading.{CountReading}
 
 unfoldable pub is_full : Basis → Bool
@@ -53,8 +52,8 @@ lines_at s places = lines (map (reading_of s) places)
 
 -- the whole text; "Refusals: those of the sheet, 21 to 24"
 unfoldable pub ranked_as : SheetRead → List ℕ → ℕ → List ℕ
-ranked_as Accepted s mask = header ++ lines_at s (ranked s mask ++ excluded s mask)
-ranked_as (Refused why offset) s mask = refusal_line (number_of why) offset
+ranked_as (Ok _) s mask = header ++ lines_at s (ranked s mask ++ excluded s mask)
+ranked_as (Err refused) s mask = refusal_line (number_of refused.refusal) refused.offset
 
 unfoldable pub ranked_text : List ℕ → ℕ → List ℕ
 ranked_text s mask = ranked_as (sheet_read s) s mask

@@ -1,104 +1,75 @@
 // One field of a reading: cut short, then wrong tag or length, then content.
-ghost use Rattle.std.specs.Prelude.{◌≡◌, false, ◌+◌, ◌*◌, ◌≤◌, ◌<◌, length};
-ghost use Rattle.sheet.specs.Fields.{bytes_left, cut_short, size_of, wrong_form, sound_position, sound_response, sound_content, field_read};
+ghost use Rattle.std.specs.Prelude.{◌≡◌, ◌+◌, ◌*◌, ◌≤◌, ◌<◌, length};
+ghost use Rattle.sheet.specs.Fields.{refused_at, tag_of, size_of, sound_content, field_read};
 
-use crate::sheet_read::SheetRead;
+use crate::sheet_read::RefusedAt;
 use identifiers::Refusal;
+
+// The fields of a reading, by their tags.
+#[derive(Clone, Copy, Debug, PartialEq, Eq)]
+pub enum Field {
+    Position = 1,
+    Mask = 2,
+    Response = 3,
+}
 
 // Two bytes, high first.
 pub fn pair(high: u8, low: u8) -> usize
     ensures { (result ≡ high * 256 + low) × (result < 65536) }
 {
-    (high as usize) * 256 + low as usize
+    u16::from_be_bytes([high, low]) as usize
 }
 
-fn bytes_left(input: &[u8], at: usize) -> usize
-    ensures { result ≡ bytes_left input.now at }
-{
-    if input.len() < at {
-        return 0;
+impl Field {
+    // How many bytes its content has.
+    #[tactic(auto, unfolding(crate::specs::Fields::size_of, identifiers::specs::Choice::pick))]
+    fn size(self) -> usize
+        ensures { result ≡ size_of (tag_of self) }
+    {
+        match self {
+            Field::Position | Field::Mask => 1,
+            Field::Response => 6,
+        }
     }
-    input.len() - at
+
+    // Whether its content is sound, which may have more behind it.
+    #[tactic(auto, unfolding(crate::specs::Fields::sound_content, crate::specs::Fields::sound_position, crate::specs::Fields::sound_response, identifiers::specs::Choice::pick, identifiers::specs::Choice::both))]
+    fn is_sound(self, content: &[u8]) -> bool
+        requires { size_of (tag_of self) ≤ length content.now }
+        ensures { result ≡ sound_content content.now 0 (tag_of self) }
+    {
+        match (self, content) {
+            (Field::Position, [position, ..]) => (1..=5).contains(position),
+            (Field::Mask, _) => true,
+            (Field::Response, [0x59, 0x01, mask, 0x03, ..]) => server::sound_mask(*mask),
+            _ => false,
+        }
+    }
 }
 
-fn cut_short(input: &[u8], at: usize) -> bool
-    ensures { result ≡ cut_short input.now at }
+fn refused(refusal: Refusal, offset: usize) -> Result<(), RefusedAt>
+    ensures { result ≡ refused_at refusal offset }
 {
-    let left = bytes_left(input, at);
-    if left < 3 {
-        return true;
-    }
-    let high = at + 1;
-    left - 3 < pair(input[high], input[high + 1])
+    Err(RefusedAt { refusal, offset })
 }
 
-fn size_of(tag: u8) -> usize
-    ensures { result ≡ size_of tag }
+// The field that is to begin at an offset.
+#[tactic(auto, unfolding(crate::specs::Fields::field_read, crate::specs::Fields::cut_short, crate::specs::Fields::wrong_form, identifiers::specs::Choice::pick, identifiers::specs::Choice::either))]
+pub fn field_read(input: &[u8], at: usize, field: Field) -> Result<(), RefusedAt>
+    ensures { result ≡ field_read input.now at (tag_of field) }
 {
-    if tag == 3 {
-        return 6;
+    let Some((_, [tag, high, low, content @ ..])) = input.split_at_checked(at) else {
+        return refused(Refusal::FieldCutShort, at);
+    };
+    let length = pair(*high, *low);
+    if content.len() < length {
+        return refused(Refusal::FieldCutShort, at);
     }
-    1
-}
-
-fn wrong_form(input: &[u8], at: usize, tag: u8) -> bool
-    requires { cut_short input.now at ≡ false }
-    ensures { result ≡ wrong_form input.now at tag }
-{
-    if input[at] != tag {
-        return true;
+    if *tag != field as u8 || length != field.size() {
+        return refused(Refusal::WrongTagOrLength, at);
     }
-    let high = at + 1;
-    pair(input[high], input[high + 1]) != size_of(tag)
-}
-
-fn sound_position(position: u8) -> bool
-    ensures { result ≡ sound_position position }
-{
-    (1 <= position) & (position <= 5)
-}
-
-fn sound_response(input: &[u8], at: usize) -> bool
-    requires { at + 6 ≤ length input.now }
-    ensures { result ≡ sound_response input.now at }
-{
-    if input[at] != 0x59 {
-        return false;
+    if !field.is_sound(content) {
+        return refused(Refusal::WrongContent, at);
     }
-    if input[at + 1] != 0x01 {
-        return false;
-    }
-    if input[at + 3] != 0x03 {
-        return false;
-    }
-    server::sound_mask(input[at + 2])
-}
-
-fn sound_content(input: &[u8], at: usize, tag: u8) -> bool
-    requires { at + size_of tag ≤ length input.now }
-    ensures { result ≡ sound_content input.now at tag }
-{
-    if tag == 1 {
-        return sound_position(input[at]);
-    }
-    if tag == 3 {
-        return sound_response(input, at);
-    }
-    true
-}
-
-// The field that begins at an offset and is to have a tag.
-pub fn field_read(input: &[u8], at: usize, tag: u8) -> SheetRead
-    ensures { result ≡ field_read input.now at tag }
-{
-    if cut_short(input, at) {
-        return SheetRead::Refused(Refusal::FieldCutShort, at);
-    }
-    if wrong_form(input, at, tag) {
-        return SheetRead::Refused(Refusal::WrongTagOrLength, at);
-    }
-    if sound_content(input, at + 3, tag) {
-        return SheetRead::Accepted;
-    }
-    SheetRead::Refused(Refusal::WrongContent, at)
+    Ok(())
 }

@@ -11,8 +11,8 @@ mod reading;
 mod sheet_read;
 
 pub use basis::{Basis, basis_of};
-pub use printing::{PAGE, measured, print};
+pub use printing::{PAGE, print};
 pub use ranking::rank;
 pub use reader::{MOST_INPUT, read_sheet};
 pub use reading::READING_SIZE;
-pub use sheet_read::{SheetRead, SheetReadTold};
+pub use sheet_read::{RefusedAt, SheetReadTold};

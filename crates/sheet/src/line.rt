@@ -3,24 +3,14 @@ ghost use Rattle.std.specs.Prelude.{◌++◌, ◌+◌, ◌≤◌, ◌<◌, lengt
 ghost use Rattle.identifiers.specs.Bytes.{Puts};
 ghost use Rattle.text.specs.Digits.{decimal_in, hex, blank};
 ghost use Rattle.sheet.specs.Leading.{leading_digit};
-ghost use Rattle.sheet.specs.Text.{word_of, numbers_of, line_of};
+ghost use Rattle.sheet.specs.Text.{numbers_of, line_of};
 
-use crate::basis::{Basis, basis_of};
+use crate::basis::basis_of;
 use crate::reading::CountReading;
 use text::{put, put_hex};
 
-fn put_basis(page: &mut [u8], at: usize, basis: Basis) -> usize
-    requires { at + 4 ≤ length page.old }
-    ensures { Puts page.old at (word_of basis) result page.new }
-{
-    match basis {
-        Basis::None => put(page, at, b"none"),
-        Basis::Full => put(page, at, b"full"),
-        Basis::Part => put(page, at, b"part"),
-    }
-}
-
 // The last digit of the number that stands in front of the others; of 0 none: no zeros stand in front.
+#[tactic(auto, using(identifiers::proofs::LawsBytes::puts_none, identifiers::proofs::LawsBytes::byte_rules), unfolding(crate::specs::Leading::leading_digit, identifiers::specs::Choice::pick))]
 fn put_leading(page: &mut [u8], at: usize, front: usize) -> usize
     requires { at < length page.old }
     ensures { Puts page.old at (leading_digit front) result page.new }
@@ -28,11 +18,13 @@ fn put_leading(page: &mut [u8], at: usize, front: usize) -> usize
     if front == 0 {
         return at;
     }
-    page[at] = 48 + (front % 10) as u8;
+    page[at] = b'0' + (front % 10) as u8;
     at + 1
 }
 
 // A number of at most five places, and a blank.
+// Digit by digit, as the text before it: a full sheet takes 83 microseconds, that text 86, and with `put_decimal` in its place 132.
+// The reach is 1.1 of the time of the model; digit by digit 1.04 was measured on one processor and 1.20 on another.
 fn put_number(page: &mut [u8], at: usize, number: usize) -> usize
     requires { at + 6 ≤ length page.old }
     ensures { Puts page.old at (decimal_in 5 number ++ blank) result page.new }
@@ -41,7 +33,7 @@ fn put_number(page: &mut [u8], at: usize, number: usize) -> usize
     let hundreds = put_leading(page, thousands, number / 1000);
     let tens = put_leading(page, hundreds, number / 100);
     let last = put_leading(page, tens, number / 10);
-    page[last] = 48 + (number % 10) as u8;
+    page[last] = b'0' + (number % 10) as u8;
     put(page, last + 1, b" ")
 }
 
@@ -63,11 +55,12 @@ fn put_numbers(page: &mut [u8], at: usize, reading: CountReading) -> usize
     put_number(page, count, reading.count)
 }
 
+// Page and place go side by side: of a struct that lends the page each contract, and `mend`'s loop, must say that its reference stays.
 pub fn put_line(page: &mut [u8], at: usize, reading: CountReading) -> usize
     requires { at + 23 ≤ length page.old }
     ensures { Puts page.old at (line_of reading) result page.new }
 {
     let word = put_numbers(page, at, reading);
-    let end = put_basis(page, word, basis_of(reading.mask, reading.available));
+    let end = put(page, word, basis_of(reading.mask, reading.available).word());
     put(page, end, b"\n")
 }

@@ -1,5 +1,5 @@
 // One reading of an accepted input.
-ghost use Rattle.std.specs.Prelude.{◌≡◌, ◌+◌, ◌*◌, ◌≤◌, ◌<◌, length};
+ghost use Rattle.std.specs.Prelude.{◌≡◌, ◌≤◌, ◌<◌, length};
 ghost use Rattle.sheet.specs.Readings.{reading_of};
 
 use crate::fields::pair;
@@ -15,17 +15,16 @@ pub struct CountReading {
     pub count: usize,
 }
 
-// What stands in a reading, counted from 0.
-pub fn reading_of(input: &[u8], number: usize) -> CountReading
-    requires { 17 * number + 17 ≤ length input.now }
-    ensures { (result ≡ reading_of input.now number) × (result.count < 65536) }
+// What stands in a reading's own bytes.
+#[tactic(auto, unfolding(crate::specs::Readings::reading_of))]
+pub fn reading_of(reading: &[u8]) -> CountReading
+    requires { 17 ≤ length reading.now }
+    ensures { (result ≡ reading_of reading.now 0) × (result.count < 65536) }
 {
-    let at = READING_SIZE * number;
-    let high = at + 15;
     CountReading {
-        position: input[at + 3],
-        mask: input[at + 7],
-        available: input[at + 13],
-        count: pair(input[high], input[high + 1]),
+        position: reading[3],
+        mask: reading[7],
+        available: reading[13],
+        count: pair(reading[15], reading[16]),
     }
 }

@@ -1,31 +1,31 @@
--- `digits_in` meets its contract: after i turns the first i bytes between the places are looked at.
-use mathlib.Core.Path.{sym}
-use Prim.Native.Nat.{◌≤◌}
+-- `digits_in` meets its contract: after each turn the bytes before it are looked at.
+use mathlib.Core.Path.{◌∙◌}
+use mathlib.Core.Logic.{⊎_elim}
+use Prim.Native.Nat.{◌≤◌, ◌<◌}
 use native.Mathlib.Nat.{mul-le-mul_left}
 use native.Mathlib.Omega.{arith}
-use Rattle.logs.proofs.LawsRuns.{part-between}
+use lib.ListN.{length}
+use Rattle.logs.proofs.LawsRuns.{slice-part}
 use Rattle.logs.proofs.LawsFound.{value-small, reading-first, reading-more, found-short, found-whole}
 use Rattle.logs.proofs.parts.digits_in.Goals as goal
 
-pub returns-then-text-to : goal.returns-then-text-to
-returns-then-text-to c = found-short _ _ _ _ c.if-text-to.true
+pub returns-in_default : goal.returns-in_default
+returns-in_default c =
+    let short = ⊎_elim (λ (h : c.args.to < c.args.from). absurd (omega arith)) (λ (h : length c.args.text.now < c.args.to). h) c.in_default.ensures.lookup.0 in
+    found-short c.args.base c.args.text.now c.args.from c.args.to short
 
-pub loop-i-init : goal.loop-i-init
-loop-i-init c = reading-first _ _
+pub loop-byte-init : goal.loop-byte-init
+loop-byte-init c = reading-first _ _
 
-pub loop-i-preserved : goal.loop-i-preserved
-loop-i-preserved c = reading-more c.loop-i.invariant c.loop-i-test.true c.digit_value-digit.ensures
+pub loop-byte-preserved : goal.loop-byte-preserved
+loop-byte-preserved c = reading-more c.loop-byte.invariant c.loop-byte-test.true c.digit_value-digit.ensures
 
 pub returns : goal.returns
 returns c =
-    found-whole _ _ _ _ c.if-text-to.false (sym (part-between _ c.requires.0)) c.loop-i-test.false c.loop-i.invariant
-
-pub overflow_mul-value : goal.overflow_mul-value
-overflow_mul-value c =
-    let small : c.digit_value-digit.result ≤ 16 = value-small _ c.digit_value-digit.ensures in
-    omega (arith, mul-le-mul_left c.loop-i.value c.requires.1, c.loop-i.invariant.small)
+    let found = c.in-Some.ensures.lookup.0 in
+    found-whole c.args.base c.args.text.now c.args.from c.args.to found.1 (found.2 ∙ slice-part c.args.text.now found.0) c.loop-byte-test.false c.loop-byte.invariant
 
 pub overflow_add-value : goal.overflow_add-value
 overflow_add-value c =
     let small : c.digit_value-digit.result ≤ 16 = value-small _ c.digit_value-digit.ensures in
-    omega (arith, mul-le-mul_left c.loop-i.value c.requires.1, c.loop-i.invariant.small)
+    omega (arith, mul-le-mul_left c.loop-byte.value c.requires.1, c.loop-byte.invariant.small)

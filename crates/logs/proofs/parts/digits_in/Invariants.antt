@@ -1,11 +1,6 @@
--- What the loop of `digits_in` keeps true, and what falls at each turn.
-use Prim.Native.Nat.{◌-◌}
-use lib.ListN.{length}
+-- What the loop of `digits_in` keeps true.
 use Rattle.logs.proofs.LawsFound.{Reading}
 use Rattle.logs.proofs.parts.digits_in.Given as goal
 
-abbrev pub invariant-loop-i : goal.invariant-loop-i
-invariant-loop-i l = Reading l.base l.digits l.good l.value l.i
-
-abbrev pub decreases-loop-i : goal.decreases-loop-i
-decreases-loop-i l = length l.digits - l.i
+abbrev pub invariant-loop-byte : goal.invariant-loop-byte
+invariant-loop-byte l = Reading l.base l.digits l.good l.value l.byte-index

@@ -1,28 +1,27 @@
 -- `scan` meets its contract: the time, the identifier and the data make the whole.
-use Prim.Native.Nat.{◌+◌}
+use mathlib.Core.Path.{◌∙◌, ap}
 use native.Mathlib.Omega.{arith}
-use Rattle.logs.specs.Outcomes.{eight}
-use Rattle.logs.proofs.LawsBegins.{pairs-are}
-use Rattle.logs.proofs.LawsScans.{mark-close, scan-whole, scan-none}
+use Rattle.logs.specs.declared.scan.Time.{Time}
+use Rattle.logs.proofs.LawsScans.{mark-close, mark-says, time-says, scan-no-time, scan-no-name, scan-whole}
 use Rattle.logs.proofs.scan.scan.Goals as goal
 
-pub returns-then-time-name : goal.returns-then-time-name
-returns-then-time-name c =
-    scan-whole _ c.time_of-time.ensures c.name_of-name.ensures c.bytes_from-bytes.ensures c.if-time-name.true
+pub returns-in_err-time : goal.returns-in_err-time
+returns-in_err-time c = c.from_residual.ensures ∙ scan-no-time c.args.text.now c.in_err-time.ensures
+
+pub name_of-requires : goal.name_of-requires
+name_of-requires c = ap (λ (t : Time). t.dot) (time-says c.args.text.now c.in_ok-time.ensures).1
+
+pub returns-in_err-name : goal.returns-in_err-name
+returns-in_err-name c = c.from_residual-in_err-name.ensures ∙ scan-no-name c.args.text.now c.in_ok-time.ensures c.in_err-name.ensures
 
 pub returns : goal.returns
-unfolding eight
-returns c =
-    scan-none _ c.time_of-time.ensures c.name_of-name.ensures c.bytes_from-bytes.ensures c.if-time-name.false
-
-pub name_of-name-requires : goal.name_of-name-requires
-name_of-name-requires c = c.time_of-time.ensures.dots
+returns c = scan-whole c.args.text.now c.in_ok-time.ensures c.in_ok-name.ensures c.bytes_from-data.ensures c.line_of.ensures
 
 pub overflow_add-name : goal.overflow_add-name
-overflow_add-name c = omega (arith, c.name_of-name.ensures.marks, mark-close c.args.text.now)
+overflow_add-name c = omega (arith, mark-says c.args.text.now c.in_ok-name.ensures, mark-close c.args.text.now)
 
 pub overflow_add-result : goal.overflow_add-result
-overflow_add-result c = omega (arith, c.name_of-name.ensures.marks, mark-close c.args.text.now)
+overflow_add-result c = omega (arith, mark-says c.args.text.now c.in_ok-name.ensures, mark-close c.args.text.now)
 
-pub overflow_add-result-then-time-name : goal.overflow_add-result-then-time-name
-overflow_add-result-then-time-name c = omega (arith, c.name_of-name.ensures.marks, mark-close c.args.text.now, c.bytes_from-bytes.ensures.counts, (pairs-are 8 c.args.text.now (c.name_of-name.result.mark + 1)).few)
+pub overflow_add-result-2 : goal.overflow_add-result-2
+overflow_add-result-2 c = omega (arith, mark-says c.args.text.now c.in_ok-name.ensures, mark-close c.args.text.now)

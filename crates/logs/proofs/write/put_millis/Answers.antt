@@ -1,5 +1,4 @@
 -- `put_millis` meets its contract: the six digits, for which there is room.
-use Rattle.identifiers.proofs.LawsBytes.{keeps-length}
 use Rattle.text.proofs.LawsPutting.{put-fits}
 use Rattle.logs.specs.Written.{millis}
 use Rattle.logs.proofs.write.put_millis.Goals as goal
@@ -8,6 +7,3 @@ pub returns : goal.returns
 unfolding millis
 returns c =
     put-fits c.requires.0 c.put.ensures
-
-pub shape_of-text : goal.shape_of-text
-shape_of-text c = keeps-length (returns c)

@@ -3,15 +3,12 @@ use mathlib.Core.Path.{ap}
 use Prim.Native.Nat.{◌+◌}
 use native.Mathlib.Omega.{arith}
 use lib.ListN.{length}
-use Rattle.identifiers.proofs.LawsBytes.{puts_none, ◌▸◌}
+use Rattle.identifiers.proofs.LawsBytes.{◌▸◌}
 use Rattle.text.specs.Digits.{decimal}
 use Rattle.text.proofs.LawsPutting.{put-fits, put_on}
 use Rattle.mending.specs.Listed.{stretch_line}
-use Rattle.mending.proofs.LawsListed.{no-stretch, a-stretch, length-parts}
+use Rattle.mending.proofs.LawsListed.{a-stretch, length-parts}
 use Rattle.mending.proofs.stretch.put_stretch.Goals as goal
-
-pub returns-then-count-eq0 : goal.returns-then-count-eq0
-returns-then-count-eq0 c = rw (no-stretch _ _ c.if-count-eq0.true) (puts_none _ _)
 
 pub returns : goal.returns
 unfolding stretch_line
@@ -20,9 +17,9 @@ returns c =
     let offset = length (decimal c.args.offset) in
     let line = a-stretch c.args.offset c.args.count c.if-count-eq0.false in
     let room = c.requires in
-    let p1 = put_on 8 (count + (4 + (offset + 1))) (omega arith) (omega (arith, room, ap length line, length-parts c.args.offset c.args.count)) c.put-a.ensures in
-    let p2 = put_on count (4 + (offset + 1)) (omega arith) p1.1 c.put_decimal-b.ensures in
-    let p3 = put_on 4 (offset + 1) (omega arith) p2.1 c.put-c.ensures in
-    let p4 = put_on offset 1 (omega arith) p3.1 c.put_decimal-d.ensures in
+    let p1 = put_on 8 (count + (4 + (offset + 1))) (omega arith) (omega (arith, room, ap length line, length-parts c.args.offset c.args.count)) c.put-first.ensures in
+    let p2 = put_on count (4 + (offset + 1)) (omega arith) p1.1 c.put_decimal-word.ensures in
+    let p3 = put_on 4 (offset + 1) (omega arith) p2.1 c.put-second.ensures in
+    let p4 = put_on offset 1 (omega arith) p3.1 c.put_decimal-end.ensures in
     let p5 = put-fits (omega (arith, p4.1)) c.put.ensures in
     rw line (p1.0 ▸ p2.0 ▸ p3.0 ▸ p4.0 ▸ p5)

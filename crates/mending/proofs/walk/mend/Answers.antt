@@ -2,7 +2,7 @@
 use mathlib.Core.Path.{◌≡◌, sym, ap, ◌∙◌}
 use mathlib.Core.Bool.{Bool, true}
 use mathlib.Core.List.{List}
-use Prim.Native.Nat.{ℕ, ◌+◌, ◌-◌, ◌≤◌}
+use Prim.Native.Nat.{ℕ, ◌-◌}
 use native.Mathlib.Omega.{arith}
 use lib.ListN.{length, take, drop, length-drop}
 use lib.Seq.{length-take-le, take_all}
@@ -24,10 +24,6 @@ rest-is s at = take_all (length s - at) (drop at s) (omega (arith, length-drop a
 begins-there : (s : List ℕ) (at : ℕ) {b : Bool} → b ≡ begins (take (length s - at) (drop at s)) → b ≡ true → begins (drop at s) ≡ true
 begins-there s at e kept = ap begins (sym (rest-is s at)) ∙ sym e ∙ kept
 
--- a reading and its place lie in the input
-reading-within : (s : List ℕ) (at : ℕ) → begins (drop at s) ≡ true → at + 17 ≤ length s
-reading-within s at e = omega (arith, begins-whole (drop at s) e, length-drop at s)
-
 -- at the end both texts stand
 keeps : (c : goal.After-put_stretch-last) → Puts c.args.kept.now 0 (mended c.args.input.now) c.loop-at.end c.loop-at.kept
 keeps c = all-kept c.loop-at.invariant c.if-input-gt-MOST_INPUT.false c.loop-at-test.false
@@ -39,7 +35,7 @@ pub loop-at-preserved-then-begins : goal.loop-at-preserved-then-begins
 loop-at-preserved-then-begins c =
     let inv = c.loop-at.invariant in
     let e = begins-there c.args.input.now c.loop-at.at c.begins.ensures c.if-begins.true in
-    let fits = kept-room inv c.if-input-gt-MOST_INPUT.false c.room.ensures.1 e in
+    let fits = kept-room inv c.if-input-gt-MOST_INPUT.false (omega arith) e in
     going-keep inv e c.put_stretch-listed.ensures (put-fits fits (rw (rest-is c.args.input.now c.loop-at.at) at c.put-end.ensures))
 
 pub returns-then-input-gt-MOST_INPUT : goal.returns-then-input-gt-MOST_INPUT
@@ -50,7 +46,7 @@ loop-at-init c = going-first _ _ _
 
 pub put_stretch-listed-requires : goal.put_stretch-listed-requires
 put_stretch-listed-requires c =
-    list-room c.loop-at.invariant c.if-input-gt-MOST_INPUT.false c.measured.ensures.1 (begins-there c.args.input.now c.loop-at.at c.begins.ensures c.if-begins.true)
+    list-room c.loop-at.invariant c.if-input-gt-MOST_INPUT.false (omega arith) (begins-there c.args.input.now c.loop-at.at c.begins.ensures c.if-begins.true)
 
 pub slice_bounds-put-end-then-begins : goal.slice_bounds-put-end-then-begins
 slice_bounds-put-end-then-begins c =
@@ -67,28 +63,7 @@ loop-at-preserved c =
 
 pub put_stretch-last-requires : goal.put_stretch-last-requires
 put_stretch-last-requires c =
-    last-room c.loop-at.invariant c.if-input-gt-MOST_INPUT.false c.measured.ensures.1 c.loop-at-test.false
-
-pub slice_bounds-rest-count : goal.slice_bounds-rest-count
-slice_bounds-rest-count c = omega (arith, c.loop-at-test.true)
-
-pub slice_bounds-rest-start : goal.slice_bounds-rest-start
-slice_bounds-rest-start c = omega (arith, c.loop-at-test.true)
-
-pub slice_bounds-rest-end : goal.slice_bounds-rest-end
-slice_bounds-rest-end c = omega (arith, c.loop-at-test.true)
-
-pub overflow_sub-at : goal.overflow_sub-at
-overflow_sub-at c = c.loop-at.invariant.order
-
-pub overflow_add-at : goal.overflow_add-at
-overflow_add-at c = omega (arith, reading-within c.args.input.now c.loop-at.at (begins-there c.args.input.now c.loop-at.at c.begins.ensures c.if-begins.true))
-
-pub loop-at-smaller-then-begins : goal.loop-at-smaller-then-begins
-loop-at-smaller-then-begins c = omega (arith, reading-within c.args.input.now c.loop-at.at (begins-there c.args.input.now c.loop-at.at c.begins.ensures c.if-begins.true))
-
-pub overflow_sub-at-2 : goal.overflow_sub-at-2
-overflow_sub-at-2 c = c.loop-at.invariant.order
+    last-room c.loop-at.invariant c.if-input-gt-MOST_INPUT.false (omega arith) c.loop-at-test.false
 
 pub overflow_cast-result : goal.overflow_cast-result
 overflow_cast-result c = omega (arith, (keeps c).ends, c.if-input-gt-MOST_INPUT.false, mended-length c.args.input.now)

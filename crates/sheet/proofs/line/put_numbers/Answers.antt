@@ -1,6 +1,6 @@
 -- `put_numbers` meets its contract: its columns, put in a row, each where there is room for it and for those behind it.
 use native.Mathlib.Omega.{arith}
-use Rattle.identifiers.proofs.LawsBytes.{keeps-length, ◌▸◌}
+use Rattle.identifiers.proofs.LawsBytes.{◌▸◌}
 use Rattle.text.proofs.LawsPutting.{put-given, room-behind}
 use Rattle.sheet.specs.Text.{numbers_of}
 use Rattle.sheet.proofs.LawsPrinted.{length-number, length-mask}
@@ -20,6 +20,3 @@ returns c =
     let mask = put-given 3 9 (length-mask _) (room-behind 6 12 (length-number _) c.requires position) c.put_mask-available.ensures in
     let available = put-given 3 6 (length-mask _) mask.1 c.put_mask-count.ensures in
     position ▸ mask.0 ▸ available.0 ▸ c.put_number.ensures
-
-pub shape_of-page : goal.shape_of-page
-shape_of-page c = keeps-length (returns c)

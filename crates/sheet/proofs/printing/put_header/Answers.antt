@@ -5,4 +5,4 @@ use Rattle.sheet.proofs.printing.put_header.Goals as goal
 
 pub returns : goal.returns
 returns c =
-    put-fits (omega (arith, c.requires)) c.put.ensures
+    put-fits (omega arith) c.put.ensures

@@ -51,6 +51,3 @@ returns c =
     let small = count_small input (λ i. (c.type_inv.input i).fits) in
     let page = sorted-page _ _ c.gather-found.ensures.puts c.gather-found.new.standings c.requires.0 (omega arith) c.gather-found.ensures.by_index small in
     c.put_header-start.ensures ▸ puts-as c.put_places.ensures (ap (lines_at input) (take_at _ _ _ many ∙ c.sort.ensures ∙ page))
-
-pub put_header-start-requires : goal.put_header-start-requires
-put_header-start-requires c = omega (arith, c.requires.1)

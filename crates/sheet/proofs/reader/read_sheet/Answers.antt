@@ -1,33 +1,25 @@
 -- `read_sheet` meets its contract: the readings passed are accepted, and the first that is not stops the loop.
 use mathlib.Core.Path.{◌≡◌, sym, ◌∙◌}
-use Prim.Native.Nat.{◌*◌, ◌/◌}
+use Prim.Native.Nat.{◌*◌}
 use native.Mathlib.Omega.{arith}
+use Rattle.std.proofs.lemmas.Result.{err_from_is_err_and}
 use Rattle.sheet.specs.Sheets.{fields_begun}
-use Rattle.sheet.proofs.LawsSheets.{first-none, first-stays, first-reading, sheet-21, sheet-fields}
+use Rattle.sheet.proofs.LawsSheets.{first-stays, first-reading, sheet-fields}
 use Rattle.sheet.proofs.reader.read_sheet.Goals as goal
 
-pub returns-then-input-gt-MOST_INPUT : goal.returns-then-input-gt-MOST_INPUT
-returns-then-input-gt-MOST_INPUT c = sym (sheet-21 _ c.if-input-gt-MOST_INPUT.true)
-
-pub loop-at-init : goal.loop-at-init
-loop-at-init c = (omega arith, omega arith, first-none _)
-
-pub returns-in_default : goal.returns-in_default
+pub returns-in_err-reading_read : goal.returns-in_err-reading_read
 unfolding fields_begun
-returns-in_default c =
-    let inv = c.loop-at.invariant in
-    let answer = c.in_default.is in
-    let refused = first-reading _ _ inv.1 inv.2 ∙ sym c.reading_read-answer.ensures ∙ answer in
-    answer ∙ sym (sheet-fields _ c.if-input-gt-MOST_INPUT.false ∙ first-stays _ _ _ _ _ (omega arith) refused)
+returns-in_err-reading_read c =
+    let exit = err_from_is_err_and c.from_residual.result c.from_residual.ensures.1 in
+    let why = c.in_err-reading_read.field-0.0 in
+    let refused = first-reading _ _ c.loop-number.invariant ∙ sym c.reading_read.ensures ∙ c.in_err-reading_read.was in
+    rw (exit.1, exit.2) (sym (sheet-fields _ (omega arith) ∙ first-stays _ _ _ why.refusal why.offset (omega arith) refused))
 
-pub loop-at-preserved : goal.loop-at-preserved
-loop-at-preserved c =
-    let inv = c.loop-at.invariant in
-    (omega arith, omega arith, first-reading _ _ inv.1 inv.2 ∙ sym c.reading_read-answer.ensures ∙ c.in-Accepted.is)
+pub loop-number-preserved : goal.loop-number-preserved
+loop-number-preserved c = first-reading _ _ c.loop-number.invariant ∙ sym c.reading_read.ensures ∙ c.in_ok-reading_read.was
 
 pub returns : goal.returns
 unfolding fields_begun
 returns c =
-    let inv = c.loop-at.invariant in
-    let e : 3 * (c.loop-at.at / 17) ≡ fields_begun c.args.input.now = omega arith in
-    sym (sheet-fields _ c.if-input-gt-MOST_INPUT.false ∙ rw e at inv.2)
+    let all : 3 * c.loop-number.number ≡ fields_begun c.args.input.now = omega arith in
+    sym (sheet-fields _ (omega arith) ∙ rw all at c.loop-number.invariant)
