@@ -10,11 +10,12 @@
 # The module is not optimised yet, and for x86-64, or for AArch64 where it is taken as it is. Only what is named here may stand in it: what
 # another kit writes has to be looked at first. DECLARATIONS is what clang makes of the C declarations, for the target.
 BEGIN {
-    # None of these depends on the processor but ptr, and its bytes are never looked at: an address is stored and loaded as one.
+    # None of these depends on the processor but ptr, and its bytes are never looked at: an address is stored and loaded as one. How far
+    # apart two lie (ptrtoaddr) is asked of whole numbers.
     words = "define declare internal noundef zeroext void ptr i1 i8 i16 i24 i32 i48 i56 i64 float x label to true false" \
         " alloca load store getelementptr inbounds nuw nsw align !noundef !range call ret br switch unreachable extractvalue null" \
         " add sub mul udiv urem and or xor lshr icmp eq ne ult ule ugt uge slt sle sgt sge zext trunc" \
-        " uitofp fsub fdiv fcmp oeq"
+        " uitofp fsub fdiv fcmp oeq ptrtoaddr"
     count = split(words, list, " ")
     for (i = 1; i <= count; i++) known[list[i]] = 1
     from = "x86_64-unknown-linux-gnu"
@@ -32,11 +33,18 @@ BEGIN {
     intrinsic["declare void @llvm.memmove.p0.p0.i64(ptr writeonly captures(none), ptr readonly captures(none), i64, i1 immarg)"] = 1
     intrinsic["declare void @llvm.memset.p0.i64(ptr writeonly captures(none), i8, i64, i1 immarg)"] = 1
     intrinsic["declare float @llvm.arithmetic.fence.f32(float)"] = 1
+    intrinsic["declare i32 @llvm.ctlz.i32(i32, i1 immarg)"] = 1
+    intrinsic["declare i64 @llvm.ctlz.i64(i64, i1 immarg)"] = 1
+    intrinsic["declare void @llvm.trap()"] = 1
     common["{ nounwind }"] = 1
     common["{ nobuiltin nounwind }"] = 1
+    common["{ cold noreturn nounwind memory(inaccessiblemem: write) }"] = 1
+    common["{ nocallback nofree nosync nounwind speculatable willreturn memory(none) }"] = 1
     common["{ nocallback nofree nounwind willreturn memory(argmem: readwrite) }"] = 1
     common["{ nocallback nofree nounwind willreturn memory(argmem: write) }"] = 1
     common["{ nocallback nocreateundeforpoison nofree nosync nounwind speculatable willreturn memory(none) }"] = 1
+    tagged = "{ i8, ptr }"
+    held_tagged = "^(  %r[0-9]+ = (call|load|extractvalue) |  ret |define internal )\\{ i8, ptr \\}[ ,]"
     # What main calls before the start: a write to a pipe that nobody reads is to fail, and not to end the program. So does tools/program.c.
     for_main = "declare i64 @__sysv_signal(i32, i64)"
 }
@@ -50,6 +58,7 @@ function refuse(why) { say("line " FNR " of the module has " why ": " $0) }
 
 # Every word of a line, but for names, numbers and marks; and that what it says of places in memory holds on every processor. Numbers side by
 # side lie in the same places on all, and so does one of 64 bits behind an address, which has 4 bytes or 8. Places are counted in bytes.
+# An address behind a small number lies at byte 8 on all, once `placed` has said so.
 function look(line,    part, n, i, rest, shape) {
     gsub(/@"[^"]*"/, " ", line)
     sub(/;.*$/, "", line)
@@ -58,7 +67,7 @@ function look(line,    part, n, i, rest, shape) {
     while (match(rest, /\{[^{}]*\}/)) {
         shape = substr(rest, RSTART, RLENGTH)
         rest = substr(rest, RSTART + RLENGTH)
-        if (shape !~ /^\{ (i8|i16|i32|i64|float)(, (i8|i16|i32|i64|float))* \}$/ && shape != "{ ptr, i64 }") refuse("a shape that is not known, " shape)
+        if (shape !~ /^\{ (i8|i16|i32|i64|float)(, (i8|i16|i32|i64|float))* \}$/ && shape != "{ ptr, i64 }" && !(shape == tagged && line ~ held_tagged)) refuse("a shape that is not known, " shape)
     }
     if (line ~ /getelementptr / && line !~ / getelementptr (inbounds nuw )?i8, ptr /) refuse("places that are not counted in bytes")
     gsub(/[][(){},=]/, " ", line)
@@ -69,6 +78,15 @@ function look(line,    part, n, i, rest, shape) {
         refuse("what is not known, " part[i])
         return
     }
+}
+
+# The line for a processor with 32-bit addresses: where an address lies behind a small number, and how two are told apart.
+function placed(line) {
+    if (way != "inner") return line
+    if (index(line, tagged) && line ~ / = extractvalue /) sub(/, 1$/, ", 2", line)
+    sub(/\{ i8, ptr \}/, "{ i8, [7 x i8], ptr }", line)
+    sub(/ = ptrtoaddr ptr /, " = ptrtoint ptr ", line)
+    return line
 }
 
 function name_of(line) {
@@ -148,16 +166,20 @@ $0 in top {
 }
 /^attributes #[0-9]+ = / {
     text = substr($0, index($0, "{"))
-    if (text == own) sub(/\{.*/, attributes)
-    else if (!(text in common)) refuse("attributes that are not known")
+    hint = text ~ /^\{ (alwaysinline|noinline) / ? substr(text, 3, index(text, " nounwind") - 2) : ""
+    sub(/^\{ (alwaysinline|noinline) /, "{ ", text)
+    if (text == own) {
+        sub(/\{.*/, attributes)
+        sub(/\{ /, "{ " hint)
+    } else if (hint != "" || !(text in common)) refuse("attributes that are not known")
     print
     next
 }
-# Texts: bytes, and no address among them.
-/^@static\.[0-9]+ = private unnamed_addr constant \[[0-9]+ x i8\] c"[^"]*", align 1$/ { print; next }
+# Texts, and tables of numbers, the low byte first as on all these processors: bytes, and no address among them.
+/^@static\.[0-9]+ = private unnamed_addr constant \[[0-9]+ x i8\] c"[^"]*", align [1248]$/ { print; next }
 /^![0-9]+ = !\{\}$/ || /^![0-9]+ = !\{i8 0, i8 2\}$/ { print; next }
 /^!0 = !\{!"rattle logic=[0-9a-f]+"\}$/ && index($0, "\"rattle logic=" logic) > 0 { proved = 1; print; next }
-/^declare (void|float) @llvm\./ {
+/^declare (void|float|i32|i64) @llvm\./ {
     text = $0
     sub(/ #[0-9]+$/, "", text)
     if (!(text in intrinsic)) refuse("an intrinsic that is not known")
@@ -185,7 +207,7 @@ $0 in top {
         sub(/^define internal noundef i32 @"[a-z_]+::main\+start"/, "define noundef i32 @program_main")
         print held($0)
     } else if (/^define internal /) {
-        print
+        print placed($0)
     } else if (way == "program") {
         left_out = 1
         if (!/^define i32 @main\(\) #[0-9]+ \{$/) refuse("a function that a program does not have")
@@ -207,7 +229,7 @@ inside && /^  / {
     if (way == "inner" && /@"castanhiu_c::[a-z_]+::castanhiu_/) refuse("a call of what the boundary calls")
     if (way == "program" && /@"[a-z_]+::main\+start"/) refuse("a call of the start")
     if (way == "program" && match($0, /@[A-Za-z0-9_]+\(/)) sub(/@/, "@program_")
-    print
+    print placed($0)
     next
 }
 { refuse("what is not known") }

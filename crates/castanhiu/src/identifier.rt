@@ -7,11 +7,11 @@ use identifiers::{Identifier, IdentifierReadTold, IdentifierWrittenTold};
 pub fn castanhiu_identifier_read(number: u32) -> IdentifierReadTold
     ensures { result ≡ read_told (read_of number) }
 {
-    Identifier::read(number).told()
+    Identifier::read(number).into()
 }
 
 pub fn castanhiu_identifier_write(fields: Identifier) -> IdentifierWrittenTold
     ensures { result ≡ written_told (written_as fields) }
 {
-    fields.write().told()
+    fields.write().into()
 }

@@ -1,20 +1,23 @@
 // A line of a log, read and written.
-ghost use Rattle.std.specs.Prelude.{◌≡◌, take};
+ghost use Rattle.std.specs.Prelude.{◌≡◌};
 ghost use Rattle.identifiers.specs.Bytes.{written};
-ghost use Rattle.logs.specs.Outcomes.{frame_told};
+ghost use Rattle.logs.specs.Outcomes.{frame_told, frame_bytes};
 ghost use Rattle.logs.specs.Lines.{line_read};
 ghost use Rattle.logs.specs.Written.{line_written, text_after, line_told};
 
 use logs::{LogFrameTold, LogLineTold, TEXT, put_data, read_line, write_line};
 
+#[tactic(auto, using(identifiers::proofs::LawsBytes::written_none))]
 pub fn castanhiu_log_read(line: &[u8], data: &mut [u8; 8]) -> LogFrameTold
     ensures { (result ≡ frame_told (line_read line.now))
-        × («data».new ≡ written «data».old 0 (take (line_read line.now).length (line_read line.now).«data»)) }
+        × («data».new ≡ written «data».old 0 (frame_bytes (line_read line.now))) }
 {
-    let frame = read_line(line);
-    let bytes = frame.data;
-    put_data(&bytes, frame.length, data);
-    frame.told()
+    let read = read_line(line);
+    if let Ok(Some(frame)) = read {
+        let bytes = frame.data.bytes;
+        put_data(&bytes, frame.data.count, data);
+    }
+    read.into()
 }
 
 pub fn castanhiu_log_write(
@@ -26,5 +29,5 @@ pub fn castanhiu_log_write(
     ensures { (result ≡ line_told (line_written identifier «data».now stamp))
         × (text.new ≡ text_after identifier «data».now stamp text.old) }
 {
-    write_line(identifier, data, stamp, text).told()
+    write_line(identifier, data, stamp, text).into()
 }

@@ -13,5 +13,5 @@ pub fn castanhiu_mend(
     ensures { (result ≡ mended_told (mended_as input.now))
         × Mends input.now kept.old page.old kept.new page.new }
 {
-    mend(input, kept, page).told()
+    mend(input, kept, page).into()
 }

@@ -16,14 +16,14 @@ pub fn castanhiu_start(node: &mut [u32; NODE], unit: u8)
 pub fn castanhiu_fresh(node: &mut [u32; NODE], own: u8, unit: u8) -> AnswerTold
     ensures { (result ≡ answer_told (fresh_of own unit).answer) × (node.new ≡ stored node.old (fresh_of own unit)) }
 {
-    fresh(node, own, unit).told()
+    fresh(node, own, unit).into()
 }
 
 pub fn castanhiu_take_address(node: &mut [u32; NODE], source: u8) -> AnswerTold
     ensures { (result ≡ answer_told (lent_taken (node_in node.old) source).answer)
         × (node.new ≡ stored node.old (lent_taken (node_in node.old) source)) }
 {
-    take_address(node, source).told()
+    take_address(node, source).into()
 }
 
 pub fn castanhiu_receive(

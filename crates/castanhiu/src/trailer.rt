@@ -9,16 +9,10 @@ ghost use Rattle.server.specs.Told.{reply_told};
 use identifiers::AnswerTold;
 use server::{ReplyTold, TrailerRecord, check, serve, set_status};
 
-fn store(statuses: &mut [u8; 63], by: &[u8; 63])
-    ensures { statuses.new ≡ by.now }
-{
-    *statuses = *by;
-}
-
 pub fn castanhiu_record_check(record: &TrailerRecord) -> AnswerTold
     ensures { result ≡ answer_told (checked_as «record».now) }
 {
-    check(*record).told()
+    check(record).into()
 }
 
 pub fn castanhiu_serve(
@@ -32,8 +26,9 @@ pub fn castanhiu_serve(
         × (response.new ≡ (served_of «record».old request.now functional response.old).response)) }
 {
     let served = serve(*record, request, functional, response);
-    store(&mut record.statuses, &served.statuses);
-    served.reply.told()
+    let statuses = served.statuses;
+    record.statuses = statuses;
+    served.reply.into()
 }
 
 pub fn castanhiu_set_status(record: &mut TrailerRecord, code: u32, status: u8) -> AnswerTold
@@ -41,6 +36,7 @@ pub fn castanhiu_set_status(record: &mut TrailerRecord, code: u32, status: u8) -
         × (result ≡ answer_told (setting_of «record».old code status).answer) }
 {
     let set = set_status(*record, code, status);
-    store(&mut record.statuses, &set.statuses);
-    set.answer.told()
+    let statuses = set.statuses;
+    record.statuses = statuses;
+    set.answer.into()
 }

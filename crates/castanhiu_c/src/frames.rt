@@ -5,7 +5,7 @@ ghost use Rattle.castanhiu.specs.Numbers.{control_numbered};
 
 use receiver::FrameCutTold;
 
-// The control is 1 continue or 2 overflow: refusal 16 for another.
+// The control is a number in castanhiu.h, 1 continue or 2 overflow: refusal 16 for another.
 #[unsafe(no_mangle)]
 pub extern "C" fn castanhiu_flow_control(control: u8, from: u8, to: u8, unit: u8) -> FrameCutTold
     ensures { result ≡ cut_told (control_numbered control from to unit) }

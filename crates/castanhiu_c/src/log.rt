@@ -1,7 +1,7 @@
 // A line of a log, read and written.
-ghost use Rattle.std.specs.Prelude.{◌≡◌, take};
+ghost use Rattle.std.specs.Prelude.{◌≡◌};
 ghost use Rattle.identifiers.specs.Bytes.{written};
-ghost use Rattle.logs.specs.Outcomes.{frame_told};
+ghost use Rattle.logs.specs.Outcomes.{frame_told, frame_bytes};
 ghost use Rattle.logs.specs.Lines.{line_read};
 ghost use Rattle.logs.specs.Written.{line_written, text_after, line_told};
 
@@ -10,7 +10,7 @@ use logs::{LogFrameTold, LogLineTold, TEXT};
 #[unsafe(no_mangle)]
 pub extern "C" fn castanhiu_log_read(line: &[u8], data: &mut [u8; 8]) -> LogFrameTold
     ensures { (result ≡ frame_told (line_read line.now))
-        × («data».new ≡ written «data».old 0 (take (line_read line.now).length (line_read line.now).«data»)) }
+        × («data».new ≡ written «data».old 0 (frame_bytes (line_read line.now))) }
 {
     castanhiu::castanhiu_log_read(line, data)
 }

@@ -4,6 +4,7 @@ ghost use Rattle.readings.specs.Readings.{parameter_of, two_bits_of, parameter_t
 
 use readings::{ParameterReadTold, TwoBitsReadTold};
 
+// The kind is a number in castanhiu.h.
 #[unsafe(no_mangle)]
 pub extern "C" fn castanhiu_read_parameter(kind: u8, raw: u32) -> ParameterReadTold
     ensures { result ≡ parameter_told (parameter_of kind raw) }

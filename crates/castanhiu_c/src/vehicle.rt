@@ -13,7 +13,7 @@ pub extern "C" fn castanhiu_position_after(source: u8) -> AddressTakenTold
     castanhiu::castanhiu_position_after(source)
 }
 
-// The side is 0 the predecessor or 1 the successor: refusal 1 for another.
+// The side is a number in castanhiu.h, 0 the predecessor or 1 the successor: refusal 1 for another.
 #[unsafe(no_mangle)]
 pub extern "C" fn castanhiu_route(
     side: u8,

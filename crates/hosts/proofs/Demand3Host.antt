@@ -1,4 +1,5 @@
 -- Demand 3 of `castanhiu_receive` itself: what a host is handed on any sequence of frames is that sequence's reading, in numbers.
+use Rattle.std.proofs.Common.{Result}
 use mathlib.Core.Path.{◌≡◌, refl, sym, ap, ap₂, ◌∙◌}
 use mathlib.Core.Bool.{Bool, true, false}
 use mathlib.Core.List.{List, [], ◌∷◌, ◌++◌}
@@ -6,6 +7,7 @@ use Prim.Native.Nat.{ℕ, ◌≤◌}
 use borrow.Author.Tests.{eqb-true, eqb-false}
 use lib.Dec.{eqb}
 use Rattle.identifiers.proofs.LawsChoice.{pick_true, pick-false}
+use Rattle.identifiers.specs.declared.refusal.Refusal.{Refusal}
 use Rattle.readings.specs.Positions.{place_of}
 use Rattle.readings.specs.declared.position.Position.{Position}
 use Rattle.receiver.specs.declared.outcome.Outcome.{Outcome}
@@ -41,7 +43,7 @@ in-numbers-append [] s = refl
 in-numbers-append (q ∷ r) s = rw (in-numbers-append r s)
 
 -- one outcome
-module _ (at : ℕ) (o : Outcome) (bytes buffer : List ℕ) where
+module _ (at : ℕ) (o : Result Outcome Refusal) (bytes buffer : List ℕ) where
   got-one : HandsOut at o bytes buffer → eqb (outcome_told o).handed_out 0 ≡ false → got_from at (outcome_told o) bytes buffer ≡ in_numbers (handed at o bytes buffer)
   unfolding got_from in_numbers
   got-one x e =
