@@ -1,42 +1,79 @@
--- Laws of a log that is read in part: bytes more, a line more, the end.
+-- Laws of a log that is read in part: bytes more, a line more, a bad line, the end.
 use mathlib.Core.Path.{◌≡◌, refl, sym, ap, ◌∙◌}
-use mathlib.Core.Bool.{Bool, true, false, false≢true}
-use mathlib.Core.List.{List, [], ◌∷◌, ◌++◌, append-nil}
+use mathlib.Core.Bool.{true, false, Bool, false≢true}
+use mathlib.Core.List.{List, [], ◌∷◌, ◌++◌}
 use Prim.Native.Nat.{ℕ, ◌+◌, ◌≤◌, ◌<◌}
 use native.Mathlib.Omega.{arith}
-use borrow.Author.Tests.{leb-true, leb-false}
-use lib.Dec.{leb}
-use lib.ListN.{length, take, drop, drop_of_length-le, length-append}
-use lib.Seq.{drop-append-le}
+use lib.ListN.{length, take, drop, length-append, length-drop}
+use Rattle.std.specs.Prelude.{Some, None, Result, Ok, Err}
 use Rattle.identifiers.specs.Refusals.{refusal}
-use Rattle.identifiers.specs.declared.answer.Answer.{Answer}
-use Rattle.identifiers.specs.declared.answer.Answer.TheVariants as answer
+use Rattle.identifiers.specs.declared.refusal.Refusal.{Refusal}
 use Rattle.logs.specs.Grammar.{Each}
-use Rattle.logs.specs.Grammar.Each.{none, one}
+use Rattle.logs.specs.Outcomes.{LineRead}
 use Rattle.logs.specs.Lines.{line_read}
 use Rattle.logs.specs.Fronts.{in_line, front_end}
-use Rattle.logs.specs.declared.answer.LineAnswer.{LineAnswer}
-use Rattle.logs.specs.declared.answer.LineAnswer.TheVariants as line
-use Rattle.logs.proofs.LawsFronts.{ends-line, front_cut, front-in-line}
+use Rattle.logs.proofs.LawsLines.{line-long}
+use Rattle.logs.proofs.LawsFronts.{front_cut, front-in-line, ends-line}
 use Rattle.importing.specs.Logs.{LogRead, begun, took_line, going, holding, took, at_end, imported}
-use Rattle.importing.proofs.LawsLogs.{goes_on, stops, line_frame, line-over, line_refused, line-holds-none, took-append, took-stops, took-front, took-begun, at-end-none, at-end-stopped, at-end-is, imported-is, took-none}
-use Rattle.importing.proofs.Imported.{long-stays}
-use Rattle.import.specs.Counting.{counts_of, begun_counts, next_counts, is_refused, Counted, Standing}
+use Rattle.importing.proofs.LawsLogs.{goes_on, stops, line_frame, line-over, line_refused, line-holds-none, took-append, took-stops, took-front, took-begun, at-end-none, at-end-stopped, at-end-line, imported-is, took-none, at-end-is}
+use Rattle.import.specs.Counting.{counts_by, counts_of, begun_counts, next_counts, Counted, Standing}
 use Rattle.import.specs.declared.counting.Counts.{Counts}
+use Rattle.import.specs.declared.counting.BadLine.{BadLine}
+use borrow.Author.Tests.{leb-true, leb-false}
+use lib.Dec.{leb}
+use lib.Seq.{drop-append-le}
+use Rattle.logs.specs.Grammar.Each.{none, one}
 
--- a line more, in the counts
-pub counts-next : (r : LogRead) → counts_of (took_line r) ≡ next_counts (counts_of r) (line_read r.held).answer
-counts-next r = by_answer (line_read r.held).answer refl
-  where
-    by_answer : (a : LineAnswer) → (line_read r.held).answer ≡ a → counts_of (took_line r) ≡ next_counts (counts_of r) a
-    by_answer line.Frame e = ap counts_of (line_frame r e)
-    by_answer line.PassedOver e = ap counts_of (line-over r e)
-    by_answer (line.Refused why) e = ap counts_of (line_refused r why e)
+-- ---- what the counts say of what is known
+record Known (r : LogRead) (c : Counts) : Type 0 where
+  pub goes : r.answer ≡ Ok tt
+  pub lines : r.lines ≡ c.lines
+  pub frames : r.frames ≡ c.frames
+  pub passed : r.passed ≡ c.passed
 
-pub next-counted : (c : Counts) (a : LineAnswer) → Counted c → Counted (next_counts c a) × ((next_counts c a).lines ≡ c.lines + 1)
-next-counted c line.Frame k = (record { frames = omega (arith, k.frames); passed = omega (arith, k.passed) }, refl)
-next-counted c line.PassedOver k = (record { frames = omega (arith, k.frames); passed = omega (arith, k.passed) }, refl)
-next-counted c (line.Refused why) k = (record { frames = omega arith; passed = omega arith }, refl)
+module _ (r : LogRead) where
+  known : {c : Counts} → counts_of r ≡ Ok c → Known r c
+  known {c} e = by_answer r.answer refl e
+    where
+      by_answer : (a : Result (Unit {0}) Refusal) → r.answer ≡ a → counts_by a r.lines r.frames r.passed ≡ Ok c → Known r c
+      by_answer (Ok u) q f = record { goes = q; lines = cc; frames = cc; passed = cc }
+      by_answer (Err why) q f = cc
+
+  stops-bad : {b : BadLine} → counts_of r ≡ Err b → going r.answer ≡ false
+  stops-bad {b} e = by_answer r.answer refl e
+    where
+      by_answer : (a : Result (Unit {0}) Refusal) → r.answer ≡ a → counts_by a r.lines r.frames r.passed ≡ Err b → going r.answer ≡ false
+      by_answer (Ok u) q f = cc
+      by_answer (Err why) q f = stops q
+
+  -- a line more
+  counts-next : {c : Counts} → counts_of r ≡ Ok c → counts_of (took_line r) ≡ next_counts c (line_read r.held)
+  counts-next {c} e = by_line (line_read r.held) refl
+    where
+      k : Known r c
+      k = known e
+
+      by_line : (a : LineRead) → line_read r.held ≡ a → counts_of (took_line r) ≡ next_counts c a
+      by_line (Ok (Some f)) q = ap counts_of (line_frame r q) ∙ rw (k.lines, k.frames, k.passed)
+      by_line (Ok None) q = ap counts_of (line-over r q) ∙ rw (k.lines, k.frames, k.passed)
+      by_line (Err why) q = ap counts_of (line_refused r why q) ∙ rw k.lines
+
+pub next-counted : (c : Counts) (a : LineRead) {n : Counts} → Counted c → Ok n ≡ next_counts c a → Counted n × (n.lines ≡ c.lines + 1)
+next-counted c (Ok (Some f)) {n} k e =
+    let l : n.lines ≡ c.lines + 1 = cc in
+    let m : n.frames ≡ c.frames + 1 = cc in
+    let p : n.passed ≡ c.passed = cc in
+    (record { frames = omega (arith, k.frames); passed = omega (arith, k.passed) }, l)
+next-counted c (Ok None) {n} k e =
+    let l : n.lines ≡ c.lines + 1 = cc in
+    let m : n.frames ≡ c.frames = cc in
+    let p : n.passed ≡ c.passed + 1 = cc in
+    (record { frames = omega (arith, k.frames); passed = omega (arith, k.passed) }, l)
+next-counted c (Err why) k e = cc
+
+no_byte : (l : List ℕ) → length l ≡ 0 → l ≡ []
+no_byte [] e = refl
+no_byte (x ∷ xs) e = absurd (omega arith)
 
 -- ---- nothing is read yet; bytes more are read
 pub standing-first : Standing [] begun_counts []
@@ -52,74 +89,67 @@ module _ {log : List ℕ} {c : Counts} {rest : List ℕ} (s : Standing log c res
         reads = took-append begun log bytes ∙ ap (λ (r : LogRead). took r bytes) s.reads ∙ sym (took-append s.state rest bytes);
       }
 
-  state-goes : c.answer ≡ answer.Done → going s.state.answer ≡ true
-  state-goes e = goes_on (ap (λ (d : Counts). d.answer) s.counts ∙ e)
-
-  state-stops : is_refused c.answer ≡ true → going s.state.answer ≡ false
-  state-stops e = by_answer c.answer refl e
-    where
-      by_answer : (a : Answer) → c.answer ≡ a → is_refused a ≡ true → going s.state.answer ≡ false
-      by_answer answer.Done q z = absurd (false≢true z)
-      by_answer (answer.Refused why) q z = stops (ap (λ (d : Counts). d.answer) s.counts ∙ q)
+  state-goes : going s.state.answer ≡ true
+  state-goes = goes_on (known s.state s.counts).goes
 
   -- ---- the front line of what is to be taken
-  pub standing-line : c.answer ≡ answer.Done → front_end rest < length rest → Standing log (next_counts c (line_read (take (front_end rest) rest)).answer) (drop (front_end rest + 1) rest)
-  standing-line e h =
-      let l = take (front_end rest) rest in
-      record {
-        state = took_line (holding s.state l);
-        clean = line-holds-none (holding s.state l);
-        counts = counts-next (holding s.state l) ∙ ap (λ (d : Counts). next_counts d (line_read l).answer) s.counts;
-        reads = s.reads ∙ ap (took s.state) (front_cut rest h) ∙ took-front s.state l (drop (front_end rest + 1) rest) s.clean (state-goes e) (front-in-line rest);
-      }
+  module _ (h : front_end rest < length rest) where
+    abbrev line : List ℕ
+    line = take (front_end rest) rest
+
+    abbrev after : LogRead
+    after = took_line (holding s.state line)
+
+    line-reads : took begun log ≡ took after (drop (front_end rest + 1) rest)
+    line-reads = s.reads ∙ ap (took s.state) (front_cut rest h) ∙ took-front s.state line (drop (front_end rest + 1) rest) s.clean state-goes (front-in-line rest)
+
+    line-counts : counts_of after ≡ next_counts c (line_read line)
+    line-counts = counts-next (holding s.state line) s.counts
+
+    pub standing-line : {n : Counts} → Ok n ≡ next_counts c (line_read line) → Standing log n (drop (front_end rest + 1) rest)
+    standing-line e = record { state = after; clean = line-holds-none (holding s.state line); counts = line-counts ∙ sym e; reads = line-reads }
+
+    pub bad-ends : {b : BadLine} → Err b ≡ next_counts c (line_read line) → counts_of (imported log) ≡ Err b
+    bad-ends e =
+        let n : counts_of after ≡ Err _ = line-counts ∙ sym e in
+        let g = stops-bad after n in
+        ap counts_of (imported-is log ∙ ap at_end (line-reads ∙ took-stops after (drop (front_end rest + 1) rest) g) ∙ at-end-stopped after g) ∙ n
 
   -- ---- the end
-  pub refused-counts : is_refused c.answer ≡ true → counts_of (took begun log) ≡ c
-  refused-counts e = ap counts_of (s.reads ∙ took-stops s.state rest (state-stops e)) ∙ s.counts
+  pub whole-ends : length rest ≡ 0 → counts_of (imported log) ≡ Ok c
+  whole-ends e =
+      let r : took begun log ≡ s.state = s.reads ∙ ap (took s.state) (no_byte rest e) ∙ took-none s.state in
+      ap counts_of (imported-is log ∙ ap at_end r ∙ at-end-none s.state s.clean) ∙ s.counts
 
-  pub refused-ends : is_refused c.answer ≡ true → counts_of (imported log) ≡ c
-  refused-ends e =
-      let r : took begun log ≡ s.state = s.reads ∙ took-stops s.state rest (state-stops e) in
-      ap counts_of (imported-is log ∙ ap at_end r ∙ at-end-stopped s.state (state-stops e)) ∙ s.counts
+  module _ (h : Each in_line rest) where
+    held-state : took begun log ≡ holding s.state rest
+    held-state = s.reads ∙ took-begun s.state rest s.clean state-goes h
 
-  module _ (e : rest ≡ []) where
-    whole-state : took begun log ≡ s.state
-    whole-state = s.reads ∙ ap (took s.state) e ∙ took-none s.state
+    last-line : 1 ≤ length rest → imported log ≡ took_line (holding s.state rest)
+    last-line n = imported-is log ∙ ap at_end held-state ∙ at-end-line (holding s.state rest) state-goes n
 
-    pub whole-counts : counts_of (took begun log) ≡ c
-    whole-counts = ap counts_of whole-state ∙ s.counts
+    -- a newline that ends the last line changes nothing
+    pub newline-same : 1 ≤ length rest → imported log ≡ imported (log ++ (10 ∷ []))
+    newline-same n =
+        let q = holding s.state rest in
+        let t : took begun (log ++ (10 ∷ [])) ≡ took_line q =
+        took-append begun log (10 ∷ []) ∙ ap (λ (r : LogRead). took r (10 ∷ [])) held-state ∙ sym (at-end-is q state-goes n) ∙ at-end-line q state-goes n in
+        last-line n ∙ sym (imported-is (log ++ (10 ∷ [])) ∙ ap at_end t ∙ at-end-none (took_line q) (line-holds-none q))
 
-    pub whole-ends : counts_of (imported log) ≡ c
-    whole-ends = ap counts_of (imported-is log ∙ ap at_end whole-state ∙ at-end-none s.state s.clean) ∙ s.counts
-
-  -- a last line without newline, as if it had one
-  pub last-ends : c.answer ≡ answer.Done → Each in_line rest → 1 ≤ length rest → imported log ≡ took begun (log ++ (10 ∷ []))
-  last-ends e h n =
-      let r : took begun log ≡ holding s.state rest = s.reads ∙ took-begun s.state rest s.clean (state-goes e) h in
-      imported-is log ∙ ap at_end r ∙ at-end-is (holding s.state rest) (state-goes e) n ∙ ap (λ (q : LogRead). took q (10 ∷ [])) (sym r) ∙ sym (took-append begun log (10 ∷ []))
-
-  -- a line that is too long whatever follows
-  pub long-ends : c.answer ≡ answer.Done → Each in_line rest → 255 < length rest → counts_of (imported log) ≡ next_counts c (line.Refused (refusal 25))
-  long-ends e h n =
-      let r : took begun log ≡ holding s.state rest = s.reads ∙ took-begun s.state rest s.clean (state-goes e) h in
-      let l : (took begun log).lines ≡ c.lines = ap (λ (q : LogRead). q.lines) r ∙ ap (λ (d : Counts). d.lines) s.counts in
-      let a : (took begun log).answer ≡ answer.Done = ap (λ (q : LogRead). q.answer) r ∙ ap (λ (d : Counts). d.answer) s.counts ∙ e in
-      let k : 255 < length (took begun log).held = rw r n in
-      ap counts_of (sym (ap imported (append-nil log)) ∙ long-stays log [] a k) ∙ ap (λ (i : ℕ). next_counts (record { lines = i; frames = 0; passed = 0; answer = answer.Done }) (line.Refused (refusal 25))) l
+    -- a line that is too long whatever follows
+    pub long-ends : 255 < length rest → counts_of (imported log) ≡ Err (record { refusal = refusal 25; line = c.lines + 1 })
+    long-ends n = ap counts_of (last-line (omega arith)) ∙ counts-next (holding s.state rest) s.counts ∙ ap (next_counts c) (line-long rest n)
 
 -- behind the last newline of a text that ends with one nothing is left
 each_last : (xs : List ℕ) → Each in_line (xs ++ (10 ∷ [])) → ⊥
 each_last [] (one e none) = false≢true (sym (ends-line 10 refl) ∙ e)
 each_last (x ∷ xs) (one e es) = each_last xs es
 
-pub none_left : (xs : List ℕ) (at : ℕ) → Each in_line (drop at (xs ++ (10 ∷ []))) → drop at (xs ++ (10 ∷ [])) ≡ []
+pub none_left : (xs : List ℕ) (at : ℕ) → Each in_line (drop at (xs ++ (10 ∷ []))) → length (drop at (xs ++ (10 ∷ []))) ≡ 0
 none_left xs at h = by_place (leb at (length xs)) refl
   where
-    by_place : (t : Bool) → leb at (length xs) ≡ t → drop at (xs ++ (10 ∷ [])) ≡ []
+    by_place : (t : Bool) → leb at (length xs) ≡ t → length (drop at (xs ++ (10 ∷ []))) ≡ 0
     by_place true q =
         let k : Each in_line (drop at xs ++ (10 ∷ [])) = rw (drop-append-le at xs (10 ∷ []) (leb-true _ _ q)) at h in
         absurd (each_last (drop at xs) k)
-    by_place false q =
-        let l : length xs < at = leb-false _ _ q in
-        let n : length (xs ++ (10 ∷ [])) ≤ at = omega (arith, length-append xs (10 ∷ [])) in
-        drop_of_length-le (xs ++ (10 ∷ [])) n
+    by_place false q = omega (arith, leb-false _ _ q, length-drop at (xs ++ (10 ∷ [])), length-append xs (10 ∷ []))

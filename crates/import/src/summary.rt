@@ -4,11 +4,10 @@ ghost use Rattle.identifiers.specs.Bytes.{Puts};
 ghost use Rattle.text.specs.Digits.{decimal, newline};
 ghost use Rattle.import.specs.Counting.{summary_of};
 
-use crate::counting::Counts;
-use identifiers::Answer;
+use crate::counting::{BadLine, Counts};
 use text::{put, put_decimal};
 
-// Two numbers, each behind its words, and a newline.
+// Two numbers, each behind its words, and a newline. Page and place stand apart, as in the functions of `text`, for their reason.
 fn put_two(page: &mut [u8], first: &[u8], number: usize, second: &[u8], other: usize) -> usize
     requires { length first.now + (length second.now + 41) ≤ length page.old }
     ensures puts { Puts page.old 0 (first.now ++ decimal number ++ second.now ++ decimal other ++ newline) result page.new }
@@ -21,26 +20,25 @@ fn put_two(page: &mut [u8], first: &[u8], number: usize, second: &[u8], other: u
     put(page, d, b"\n")
 }
 
-pub(crate) fn put_summary(page: &mut [u8], counts: Counts) -> usize
+pub(crate) fn put_summary(page: &mut [u8], counts: Result<Counts, BadLine>) -> usize
     requires { 80 ≤ length page.old }
     ensures puts { Puts page.old 0 (summary_of counts) result page.new }
     ensures upper_bound { result ≤ length page.new }
 {
-    let answer = counts.answer;
-    match answer {
-        Answer::Done => put_two(
+    match counts {
+        Ok(counts) => put_two(
             page,
             b"frames ",
             counts.frames,
             b"\npassed over ",
             counts.passed,
         ),
-        Answer::Refused(why) => put_two(
+        Err(bad) => put_two(
             page,
             b"refused ",
-            why.number() as usize,
+            bad.refusal.number() as usize,
             b" at line ",
-            counts.lines,
+            bad.line,
         ),
     }
 }

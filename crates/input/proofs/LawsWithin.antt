@@ -1,6 +1,8 @@
 -- Laws of what the operating system answers: bytes read lie in the buffer, also where they follow others, a word's number lies below its bound,
 -- and no bytes are always written.
-use mathlib.Core.Path.{◌≡◌, refl, sym}
+use Rattle.std.specs.Prelude.{Option, Some, None, Result, Ok, Err}
+use Rattle.std.specs.Result.{IsErr, result_ok}
+use mathlib.Core.Path.{◌≡◌, refl, sym, ap, ◌∙◌}
 use mathlib.Core.Bool.{Bool, true}
 use mathlib.Core.List.{List}
 use Prim.Native.Nat.{ℕ, ◌+◌, ◌-◌, ◌^◌, ◌≤◌, ◌<◌}
@@ -8,64 +10,57 @@ use native.Mathlib.Omega.{arith}
 use borrow.Author.Tests.{leb-true, le-leb, ltb-true, lt-ltb}
 use lib.Dec.{ltb}
 use lib.ListN.{length, take, drop, length-take, length-drop}
-use lib.Seq.{length-take-le}
 use Rattle.identifiers.proofs.LawsChoice.{left-holds, right-holds}
 use Rattle.text.specs.Reading.{digits_read}
-use Rattle.text.specs.declared.reading.DigitsRead.{DigitsRead}
-use Rattle.text.specs.declared.reading.DigitsRead.TheVariants.{Number, NoNumber}
 use Rattle.text.proofs.LawsReading.{value-below}
 use Rattle.text.proofs.Texts.{read-exactly}
-use Rattle.input.specs.Within.{within, word_within, below, empty_written}
-use Rattle.input.specs.declared.arguments.WordRead.{WordRead}
-use Rattle.input.specs.declared.arguments.WordRead.TheVariants as word
-use Rattle.input.specs.declared.standard_input.Input.{Input}
-use Rattle.input.specs.declared.standard_input.Input.TheVariants as input
+use Rattle.input.specs.Within.{within, below, empty_written}
 
-pub bytes-within : (room n : ℕ) → n ≤ room → within room (input.Bytes n) ≡ true
+pub bytes-within : (E : Type 0) (room n : ℕ) → n ≤ room → within {E = E} room (Ok n) ≡ true
 unfolding within
-bytes-within room n h = le-leb _ _ h
+bytes-within E room n h = le-leb _ _ h
 
-pub failed-within : (room : ℕ) → within room input.Failed ≡ true
+pub failed-within : {E : Type 0} (room : ℕ) (r : Result ℕ E) → IsErr r → within room r ≡ true
 unfolding within
-failed-within room = refl
+failed-within room (Ok n) h = cc
+failed-within room (Err e) h = refl
 
-pub within-bytes : (room n : ℕ) (r : Input) → r ≡ input.Bytes n → within room r ≡ true → n ≤ room
+pub within_bytes : {E : Type 0} (room n : ℕ) (r : Result ℕ E) → r ≡ Ok n → within room r ≡ true → n ≤ room
 unfolding within
-within-bytes room n r e h = leb-true _ _ (rw e at h)
+within_bytes room n r e h = leb-true _ _ (rw e at h)
+
+-- the same, as `.ok()?` asks it
+pub within-some : {E : Type 0} (room n : ℕ) (r : Result ℕ E) {o : Option ℕ} → o ≡ result_ok r → o ≡ Some n → within room r ≡ true → n ≤ room
+within-some room n (Ok m) e s w = let q : Some m ≡ Some n = sym e ∙ s in let p : m ≡ n = cc in within_bytes room n (Ok m) (ap Ok p) w
+within-some room n (Err f) e s w = let q : None ≡ Some n = sym e ∙ s in cc
 
 -- bytes read into the rest of a buffer, from a place on
-pub more_within : (buffer : List ℕ) (room at n : ℕ) (r : Input) → at ≤ length buffer → room ≡ length (take (length buffer - at) (drop at buffer)) → r ≡ input.Bytes n
+pub more_within : {E : Type 0} (buffer : List ℕ) (room at n : ℕ) (r : Result ℕ E) → at ≤ length buffer → room ≡ length (take (length buffer - at) (drop at buffer)) → r ≡ Ok n
     → within room r ≡ true
     → at + n ≤ length buffer
 more_within buffer room at n r h l e w =
     let rest : length (take (length buffer - at) (drop at buffer)) ≡ length buffer - at = simp (length-take, length-drop) (omega arith) in
-    omega (arith, within-bytes room n r e w)
-
--- a chunk is no longer than its buffer
-pub chunk-length : (buffer : List ℕ) {n most : ℕ} {r : Input} → r ≡ input.Bytes n → within (length buffer) r ≡ true → length buffer ≡ most → length (take n buffer) ≤ most
-chunk-length buffer {n} e w l = let h = within-bytes _ n _ e w in omega (arith, length-take-le n buffer h, h, l)
-
--- ---- words
-pub within-word-bytes : (room n : ℕ) (r : WordRead) → r ≡ word.Bytes n → word_within room r ≡ true → n ≤ room
-unfolding word_within
-within-word-bytes room n r e h = leb-true _ _ (rw e at h)
+    omega (arith, within_bytes room n r e w)
 
 -- ---- numbers
-pub none_below : (bound : ℕ) → below bound NoNumber ≡ true
+pub none_below : (bound : ℕ) → below bound None ≡ true
 unfolding below
 none_below bound = refl
 
-pub below-number : (bound n : ℕ) (r : DigitsRead) → r ≡ Number n → below bound r ≡ true → n < bound
+pub below_number : (bound n : ℕ) (r : Option ℕ) → r ≡ Some n → below bound r ≡ true → n < bound
 unfolding below
-below-number bound n r e h = ltb-true _ _ (rw e at h)
+below_number bound n r e h = ltb-true _ _ (rw e at h)
 
 -- exactly so many digits say less than so many places can hold
-pub digits-below : (base places : ℕ) (text : List ℕ) (r : DigitsRead) → r ≡ digits_read base places text → below (base ^ places) r ≡ true
+pub read_below : (base places : ℕ) (text : List ℕ) → below (base ^ places) (digits_read base places text) ≡ true
 unfolding below
-digits-below base places text (Number n) e =
-    let s = (read-exactly base places text n).0 (sym e) in
-    lt-ltb _ _ (rw (s.value, s.long) at (value-below base text s.digits))
-digits-below base places text NoNumber e = refl
+read_below base places text = by-read (digits_read base places text) refl
+  where
+    by-read : (r : Option ℕ) → digits_read base places text ≡ r → below (base ^ places) r ≡ true
+    by-read (Some n) e =
+        let s = (read-exactly base places text n).0 e in
+        lt-ltb _ _ (rw (s.value, s.long) at (value-below base text s.digits))
+    by-read None e = refl
 
 -- ---- a text
 pub all_written : (count : ℕ) → empty_written count true ≡ true

@@ -1,65 +1,45 @@
 // The words that a program was given behind its name.
 ghost use Rattle.std.specs.Prelude.{◌≡◌, true, ◌^◌, length};
-ghost use Rattle.input.specs.Within.{words_within, word_within, base_of, below};
+ghost use Rattle.input.specs.Within.{words_within, within, below};
 
 use std::env::{Env, FillError};
-use text::DigitsRead;
 
-// How many bytes a word has, or that there is no such word, or that the buffer does not take it.
-#[derive(Clone, Copy)]
-pub enum WordRead {
-    Bytes(usize),
-    Missing,
-    TooLong,
-}
-
-// How many words there are: one less than the number of the first that is not there.
+// How many words there are: those up to the first that is not there.
 #[tactic(auto, unfolding(crate::specs::Within::words_within))]
 pub fn words(rt: HostRuntime) -> usize
     ensures { words_within result ≡ true }
 {
-    for number in 1..=usize::MAX {
-        if matches!(rt.arg(number, &mut []), Err(FillError::NotPresent)) {
-            return number - 1;
-        }
-    }
-    usize::MAX - 1
+    let given = |number: &usize| !matches!(rt.arg(*number, &mut []), Err(FillError::NotPresent));
+    (1..usize::MAX).take_while(given).count()
 }
 
-// Puts a word, counted from 1, at the start of the buffer.
-#[tactic(auto, unfolding(crate::specs::Within::word_within))]
-pub fn word(rt: HostRuntime, number: usize, buffer: &mut [u8]) -> WordRead
-    ensures { word_within (length buffer.new) result ≡ true }
+// Puts a word, counted from 1, at the start of the buffer: how many bytes it has, or that there is no such word, or that the
+// buffer does not take it.
+#[tactic(auto, unfolding(crate::specs::Within::within))]
+pub fn word(rt: HostRuntime, number: usize, buffer: &mut [u8]) -> Result<usize, FillError>
+    ensures { within (length buffer.new) result ≡ true }
 {
-    match rt.arg(number, buffer) {
-        Ok(count) => WordRead::Bytes(count),
-        Err(FillError::NotPresent) => WordRead::Missing,
-        Err(FillError::TooLong) => WordRead::TooLong,
-    }
+    rt.arg(number, buffer)
 }
 
-// A word of exactly so many digits; a word that is missing or longer than 16 bytes is no number.
-fn digits_word(rt: HostRuntime, number: usize, places: usize, hexadecimal: bool) -> DigitsRead
-    ensures { below (base_of hexadecimal ^ places) result ≡ true }
-{
-    let mut buffer = [0u8; 16];
-    let WordRead::Bytes(n) = word(rt, number, &mut buffer) else {
-        return DigitsRead::NoNumber;
-    };
-    if hexadecimal {
-        return text::read_hex(&buffer[..n], places);
-    }
-    text::read_decimal(&buffer[..n], places)
+// The bytes of a word that the buffer takes.
+fn taken_word(rt: HostRuntime, number: usize, buffer: &mut [u8]) -> Option<&[u8]> {
+    let n = word(rt, number, buffer).ok()?;
+    Some(&buffer[..n])
 }
 
-pub fn hex_word(rt: HostRuntime, number: usize, places: usize) -> DigitsRead
+// A word of exactly so many digits; a word that is missing or longer than 16 bytes is no number. Both names are public,
+// and stay: to a base over 16 other bytes would be digits, and no public function may ask for less.
+#[tactic(auto, using(crate::proofs::LawsWithin::none_below, crate::proofs::LawsWithin::read_below))]
+pub fn hex_word(rt: HostRuntime, number: usize, places: usize) -> Option<u32>
     ensures { below (16 ^ places) result ≡ true }
 {
-    digits_word(rt, number, places, true)
+    text::read_hex(taken_word(rt, number, &mut [0u8; 16])?, places)
 }
 
-pub fn decimal_word(rt: HostRuntime, number: usize, places: usize) -> DigitsRead
+#[tactic(auto, using(crate::proofs::LawsWithin::none_below, crate::proofs::LawsWithin::read_below))]
+pub fn decimal_word(rt: HostRuntime, number: usize, places: usize) -> Option<u32>
     ensures { below (10 ^ places) result ≡ true }
 {
-    digits_word(rt, number, places, false)
+    text::read_decimal(taken_word(rt, number, &mut [0u8; 16])?, places)
 }

@@ -6,6 +6,6 @@ mod arguments;
 mod standard_input;
 mod standard_output;
 
-pub use arguments::{WordRead, decimal_word, hex_word, word, words};
-pub use standard_input::{CHUNK, Input, MOST_CHUNKS, read_chunk, read_whole};
+pub use arguments::{decimal_word, hex_word, word, words};
+pub use standard_input::{CHUNK, MOST_CHUNKS, read_chunk, read_whole};
 pub use standard_output::{say_lines, unread, usage, write};

@@ -9,7 +9,7 @@ fn say(rt: HostRuntime, first: &[u8], second: &[u8]) {
     let named = text::put(parts, 0, first);
     let said = text::put(parts, named, second);
     let end = said + 1;
-    line[said] = 10;
+    line[said] = b'\n';
     let _ = rt.stderr().write_all(&line[..end]);
 }
 
@@ -23,20 +23,17 @@ pub fn unread(rt: HostRuntime, name: &[u8]) {
 
 // Lines to standard error; that they do not arrive can be said nowhere.
 pub fn say_lines(rt: HostRuntime, lines: &[u8]) {
-    if lines.len() != 0 {
+    if !lines.is_empty() {
         let _ = rt.stderr().write_all(lines);
     }
 }
 
-// Writes the text to standard output; where that fails it says so and answers false.
+// Writes the text to standard output; where that fails it says so and answers false: an error would be no plainer, since it is said.
 #[tactic(auto, using(crate::proofs::LawsWithin::all_written, crate::proofs::LawsWithin::not_empty))]
 pub fn write(rt: HostRuntime, name: &[u8], text: &[u8]) -> bool
     ensures { empty_written (length text.now) result ≡ true }
 {
-    if text.len() == 0 {
-        return true;
-    }
-    if rt.write_all(text).is_ok() {
+    if text.is_empty() || rt.write_all(text).is_ok() {
         return true;
     }
     say(rt, name, b": standard output could not be written");

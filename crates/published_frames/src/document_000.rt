@@ -3,8 +3,10 @@ ghost use Rattle.std.specs.Prelude.{◌≡◌, ◌%◌};
 ghost use Rattle.receiver.specs.Nodes.{start_of};
 ghost use Rattle.receiver.specs.Lent.{node_in, numbers_of, lent_received, lent_buffer};
 
+use identifiers::Refusal;
 use published_lines::*;
 use receiver::*;
+use std::array;
 
 const FUNCTIONAL: u32 = 0x18CDFFEB;
 
@@ -15,7 +17,7 @@ const FIRST: [u8; 8] = *b"\x05\x10\x0B\x22\xF1\x90\xF1\x87";
 
 const SECOND: [u8; 8] = *b"\x05\x21\xF1\x8C\xF1\x95\xF1\x97";
 
-// Nothing handed out, with flow control due, is a reception opened.
+// Nothing handed out, with flow control due, is a reception opened. `OutcomeTold` is of the C interface: its kinds are numbers.
 fn accepted(rt: HostRuntime, told: OutcomeTold) {
     if told.functional {
         say(rt, b"functional ");
@@ -41,7 +43,7 @@ fn tell<'a>(rt: HostRuntime, data: &'a [u8], buffer: &'a [u8], told: OutcomeTold
     let words = b"|, continue due|, overflow due|";
     say(rt, part(words, b'|', told.control as usize));
     let text = shown(data, buffer, told);
-    if text.len() != 0 {
+    if !text.is_empty() {
         say(rt, b", message");
         say_bytes(rt, text);
     }
@@ -74,29 +76,19 @@ fn started() -> [u32; NODE]
 
 // A name, then frames one after the other to trailer 1 with unit 5: data (F: FIRST, S: SECOND), an identifier, a stamp, and a line.
 pub fn sequence(rt: HostRuntime, case: &[u8]) {
-    let count = marks(case, b'/');
     let mut buffer = [0u8; BUFFER];
     let mut node = started();
-    let mut k = 0;
-    while k < count {
-        k += 1;
-        let frame = part(case, b'/', k);
+    for frame in case.split(|b| *b == b'/').skip(1) {
         say(rt, part(case, b'/', 0));
         say_case(rt, part(frame, b';', 3), frame);
         let identifier = value(frame, 1, 16);
         let stamp = value(frame, 2, 16);
-        match letter(frame) {
-            b'F' => offer(rt, &mut node, &mut buffer, identifier, &FIRST, stamp),
-            b'S' => offer(rt, &mut node, &mut buffer, identifier, &SECOND, stamp),
-            _ => offer(
-                rt,
-                &mut node,
-                &mut buffer,
-                identifier,
-                part(frame, b';', 0),
-                stamp,
-            ),
-        }
+        let data: &[u8] = match letter(frame) {
+            b'F' => &FIRST,
+            b'S' => &SECOND,
+            _ => part(frame, b';', 0),
+        };
+        offer(rt, &mut node, &mut buffer, identifier, data, stamp);
     }
 }
 
@@ -109,9 +101,8 @@ pub fn offered(rt: HostRuntime, case: &[u8]) {
 }
 
 // The frame 3E 00 to unit 5.
-fn presence(rt: HostRuntime, found: [u32; NODE], identifier: u32) {
+fn presence(rt: HostRuntime, mut node: [u32; NODE], identifier: u32) {
     let mut buffer = [0u8; BUFFER];
-    let mut node = found;
     offer(rt, &mut node, &mut buffer, identifier, &PRESENCE, 0);
 }
 
@@ -121,14 +112,14 @@ pub fn channel(rt: HostRuntime, line: &[u8], case: &[u8]) {
     say_case(rt, line, case);
     say(rt, b"offered to its trailer: ");
     let mut node = [0; NODE];
-    fresh(&mut node, byte(case, 2, 10), 5);
+    let _ = fresh(&mut node, byte(case, 2, 10), 5);
     presence(rt, node, value(case, 1, 16));
 }
 
 pub fn node(rt: HostRuntime, case: &[u8]) {
     let mut node = [0; NODE];
-    let answer = fresh(&mut node, byte(case, 0, 10), 5);
-    if refused(rt, answer.number()) {
+    if let Err(why) = fresh(&mut node, byte(case, 0, 10), 5) {
+        refused(rt, why.number());
         say(rt, b"offered a frame: ");
     }
     presence(rt, node, FUNCTIONAL);
@@ -169,31 +160,33 @@ pub fn hears(rt: HostRuntime, case: &[u8]) {
     let mut node = started();
     node[0] = value(case, 0, 10);
     node[2] = 11;
-    let answer = take_address(&mut node, byte(case, 1, 16));
-    if !refused(rt, answer.number()) {
-        say_number(rt, b"own position ", low(node[0]) as usize);
-        say_byte(rt, b", reception 0 of length ", low(node[2]));
-        say(rt, b"\n");
+    match take_address(&mut node, byte(case, 1, 16)) {
+        Err(why) => {
+            refused(rt, why.number());
+        }
+        Ok(()) => {
+            say_number(rt, b"own position ", low(node[0]) as usize);
+            say_byte(rt, b", reception 0 of length ", low(node[2]));
+            say(rt, b"\n");
+        }
     }
 }
 
 // All frames of a message from the tractor to trailer 1, each 150 ms after the one before, the second byte of each said; the stamps run round.
 fn read_back(rt: HostRuntime, message: &[u8]) {
-    let count = frame_count(message.len());
     let mut buffer = [0u8; BUFFER];
     let mut node = started();
     let mut unchanged = false;
     let mut stamp: u32 = 0xFFFFFFF0;
-    let mut k = 0;
-    while k < count {
-        let told = cut(message, k, 0, 1, 5).told();
-        let data = told.data;
-        say_byte(rt, b" ", data[1]);
-        let frame = front(&data, told.length as usize);
-        let outcome = receive(&mut node, &mut buffer, told.identifier, frame, stamp);
-        unchanged = check::same(shown(frame, &buffer, outcome), message);
-        stamp = std::num::wrapping_add_u32(stamp, 150);
-        k += 1;
+    for number in 0..frame_count(message.len()) {
+        if let Ok(piece) = cut(message, number, 0, 1, 5) {
+            let data = piece.data;
+            say_byte(rt, b" ", data[1]);
+            let frame = front(&data, piece.length as usize);
+            let told = receive(&mut node, &mut buffer, piece.identifier, frame, stamp);
+            unchanged = shown(frame, &buffer, told) == message;
+            stamp = stamp.wrapping_add(150);
+        }
     }
     if unchanged {
         say(rt, b" read back unchanged\n");
@@ -204,21 +197,21 @@ fn read_back(rt: HostRuntime, message: &[u8]) {
 
 // The length of a message of bytes 0, 1, .. 250 and 0, 1, .. again.
 pub fn message(rt: HostRuntime, case: &[u8]) {
-    let mut message = [0u8; 256];
-    let mut i = 0;
-    while i < 256 {
-        message[i] = (i % 251) as u8;
-        i += 1;
-    }
+    let message: [u8; 256] = array::from_fn(|i| (i % 251) as u8);
     read_back(rt, front(&message, value(case, 0, 10) as usize));
 }
 
-fn frame(rt: HostRuntime, told: FrameCutTold) {
-    if !refused(rt, told.refusal) {
-        let data = told.data;
-        say_long(rt, told.identifier);
-        say_bytes(rt, front(&data, told.length as usize));
-        say(rt, b"\n");
+fn frame(rt: HostRuntime, piece: Result<FrameCut, Refusal>) {
+    match piece {
+        Err(why) => {
+            refused(rt, why.number());
+        }
+        Ok(piece) => {
+            let data = piece.data;
+            say_long(rt, piece.identifier);
+            say_bytes(rt, front(&data, piece.length as usize));
+            say(rt, b"\n");
+        }
     }
 }
 
@@ -228,10 +221,7 @@ pub fn piece(rt: HostRuntime, case: &[u8]) {
     let text = front(&message, value(case, 1, 10) as usize);
     let from = byte(case, 2, 10);
     let to = byte(case, 3, 10);
-    frame(
-        rt,
-        cut(text, value(case, 0, 10) as usize, from, to, 5).told(),
-    );
+    frame(rt, cut(text, value(case, 0, 10) as usize, from, to, 5));
 }
 
 // Continue or overflow, and the positions from and to.
@@ -241,5 +231,5 @@ pub fn due(rt: HostRuntime, case: &[u8]) {
         _ => Control::Overflow,
     };
     let from = byte(case, 1, 10);
-    frame(rt, flow_control(control, from, byte(case, 2, 10), 5).told());
+    frame(rt, flow_control(control, from, byte(case, 2, 10), 5));
 }

@@ -2,9 +2,7 @@
 #![tactic(auto)]
 
 ghost use Rattle.std.specs.Prelude.{◌≡◌, not, ◌%◌, eqb, get_or, take};
-ghost use Rattle.published_lines.specs.Tables.{reach_of, marks_of, part_of, number_or_zero, value_of};
-
-use text::DigitsRead;
+ghost use Rattle.published_lines.specs.Tables.{marks_of, part_of, value_of};
 
 // That the line does not arrive is said nowhere.
 pub fn say(rt: HostRuntime, text: &[u8]) {
@@ -27,22 +25,19 @@ pub fn say_byte(rt: HostRuntime, words: &[u8], byte: u8) {
 
 // A number of 32 bits in eight digits.
 pub fn say_long(rt: HostRuntime, number: u32) {
-    say_byte(rt, b"", (number / 16777216) as u8);
-    say_byte(rt, b"", (number / 65536 % 256) as u8);
-    say_byte(rt, b"", (number / 256 % 256) as u8);
-    say_byte(rt, b"", (number % 256) as u8);
+    for byte in number.to_be_bytes() {
+        say_byte(rt, b"", byte);
+    }
 }
 
 // A space and two digits for each byte.
 pub fn say_bytes(rt: HostRuntime, text: &[u8]) {
-    let mut i = 0;
-    while i < text.len() {
-        say_byte(rt, b" ", text[i]);
-        i += 1;
+    for byte in text {
+        say_byte(rt, b" ", *byte);
     }
 }
 
-// Ends a line with a refusal, and says whether there is one: number 0 is none.
+// Ends a line with a refusal, and says whether there is one: number 0 is none, since the clause speaks of every number.
 pub fn refused(rt: HostRuntime, number: u8) -> bool
     ensures { result ≡ not (eqb number 0) }
 {
@@ -55,104 +50,58 @@ pub fn refused(rt: HostRuntime, number: u8) -> bool
 }
 
 // The first bytes, or all where there are fewer.
-pub fn front<'a>(text: &'a [u8], count: usize) -> &'a [u8]
+pub fn front(text: &[u8], count: usize) -> &[u8]
     ensures { result.now ≡ take count text.now }
 {
-    if text.len() < count {
-        return text;
-    }
-    &text[..count]
+    &text[..count.min(text.len())]
 }
 
-// The first byte, or 0 where there is none.
+// The first byte, or 0 where there is none: rows are told apart by letters, of which 0 is none.
 pub fn letter(text: &[u8]) -> u8
     ensures { result ≡ get_or text.now 0 0 }
 {
-    if text.len() == 0 {
-        return 0;
-    }
-    text[0]
-}
-
-// The place of the first mark, or the length where there is none.
-fn reach(text: &[u8], mark: u8) -> usize
-    ensures { result ≡ reach_of mark text.now }
-{
-    let mut i = 0;
-    while i < text.len() {
-        if text[i] == mark {
-            return i;
-        }
-        i += 1;
-    }
-    i
+    text.first().copied().unwrap_or(0)
 }
 
 pub fn marks(text: &[u8], mark: u8) -> usize
     ensures { result ≡ marks_of mark text.now }
 {
-    let mut count = 0;
-    let mut i = 0;
-    while i < text.len() {
-        if text[i] == mark {
-            count += 1;
-        }
-        i += 1;
-    }
-    count
+    text.iter().filter(|b| **b == mark).count()
 }
 
-// What stands behind k marks, up to the next one.
-pub fn part<'a>(text: &'a [u8], mark: u8, k: usize) -> &'a [u8]
+// What stands behind k marks, up to the next one; nothing where there are fewer.
+pub fn part(text: &[u8], mark: u8, k: usize) -> &[u8]
     ensures { result.now ≡ part_of mark k text.now }
 {
-    let end = reach(text, mark);
-    if k == 0 {
-        return front(text, end);
-    }
-    if text.len() <= end {
-        return front(text, 0);
-    }
-    let next = end + 1;
-    part(&text[next..], mark, k - 1)
+    text.split(|b| *b == mark).nth(k).unwrap_or(&[])
 }
 
-// The words of a line, with a word of the case at each mark #, and the next word in bytes at a mark $ behind them.
+// The words of a line, with a word of the case at each mark #, and the next word in bytes at a mark $ behind them. By number: the parts of
+// both texts go side by side, and what stands behind the last mark is of one of them alone.
 pub fn say_case(rt: HostRuntime, line: &[u8], case: &[u8]) {
     let count = marks(line, b'#');
-    let mut k = 0;
-    while k < count {
+    for k in 0..count {
         say(rt, part(line, b'#', k));
         say(rt, part(case, b';', k));
-        k += 1;
     }
-    let end = part(line, b'#', k);
+    let end = part(line, b'#', count);
     say(rt, part(end, b'$', 0));
     if marks(end, b'$') != 0 {
-        say_bytes(rt, part(case, b';', k));
+        say_bytes(rt, part(case, b';', count));
         say(rt, part(end, b'$', 1));
     }
 }
 
-// The number that was read, or 0 where there is none.
-fn number_or_zero(read: DigitsRead) -> u32
-    ensures { result ≡ number_or_zero read }
-{
-    match read {
-        DigitsRead::Number(said) => said,
-        DigitsRead::NoNumber => 0,
-    }
-}
-
-// A word of a case as a number: to base 16 in hexadecimal, to every other in decimal.
+// A word of a case as a number, 0 where it says none: to base 16 in hexadecimal, to every other in decimal. `value_of` is said of every base.
+#[tactic(auto, unfolding(crate::specs::Tables::value_of, identifiers::specs::Choice::pick))]
 pub fn value(case: &[u8], k: usize, base: u8) -> u32
     ensures { result ≡ value_of base (part_of 59 k case.now) }
 {
     let word = part(case, b';', k);
     if base == 16 {
-        return number_or_zero(text::read_hex(word, word.len()));
+        return text::read_hex(word, word.len()).unwrap_or(0);
     }
-    number_or_zero(text::read_decimal(word, word.len()))
+    text::read_decimal(word, word.len()).unwrap_or(0)
 }
 
 pub fn byte(case: &[u8], k: usize, base: u8) -> u8

@@ -8,7 +8,7 @@ mod tables;
 use published_lines::*;
 use server::TrailerRecord;
 
-// The first letter of the row's word says what is asked of the record.
+// The first letter of the row's word says what is asked of the record: a letter of a text names no closure.
 fn run(rt: HostRuntime, record: TrailerRecord, row: &[u8], case: &[u8]) {
     say_case(rt, part(row, b';', 1), case);
     match letter(row) {
@@ -22,18 +22,16 @@ fn run(rt: HostRuntime, record: TrailerRecord, row: &[u8], case: &[u8]) {
     }
 }
 
-// Each row begins with a newline, and each of its parts ends with a mark.
+// Each row begins with a newline, and each of its parts ends with a mark. One function for both crates would take a closure, and no
+// public function may ask that it can be called.
 fn walk(rt: HostRuntime, record: TrailerRecord, table: &[u8]) {
-    let count = marks(table, b'|');
-    let mut row = 0;
-    let mut k = 0;
-    while k < count {
-        let text = part(table, b'|', k);
-        match letter(text) {
-            b'\n' => row = k,
-            _ => run(rt, record, part(part(table, b'|', row), b'\n', 1), text),
+    let mut row: &[u8] = b"";
+    for text in table.split(|b| *b == b'|') {
+        match text {
+            [] => {}
+            [b'\n', words @ ..] => row = words,
+            _ => run(rt, record, row, text),
         }
-        k += 1;
     }
 }
 

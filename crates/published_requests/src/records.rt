@@ -3,8 +3,10 @@ ghost use Rattle.std.specs.Prelude.{◌≡◌, [], ◌∷◌, take, replicate};
 ghost use Rattle.server.specs.Server.{served_of};
 
 use crate::walk;
+use identifiers::Refusal;
 use published_lines::*;
 use server::*;
+use std::array;
 
 // Three fault codes with the statuses 08, 50 and 09 under the availability mask 7F, and no datum.
 pub fn faulty() -> TrailerRecord
@@ -32,17 +34,16 @@ pub fn faulty() -> TrailerRecord
 }
 
 // An answer of up to 24 bytes is said, a longer one counted.
-fn answered(rt: HostRuntime, told: ReplyTold, response: &[u8]) {
-    if told.refusal != 0 {
-        say_number(rt, b" refused ", told.refusal as usize);
-    } else if told.silent {
-        say(rt, b" silent");
-    } else if 24 < told.length {
-        say_number(rt, b" ", told.length);
-        say(rt, b" bytes that begin");
-        say_bytes(rt, front(response, 4));
-    } else {
-        say_bytes(rt, front(response, told.length));
+fn answered(rt: HostRuntime, reply: Result<Option<usize>, Refusal>, response: &[u8]) {
+    match reply {
+        Err(why) => say_number(rt, b" refused ", why.number() as usize),
+        Ok(None) => say(rt, b" silent"),
+        Ok(Some(length)) if 24 < length => {
+            say_number(rt, b" ", length);
+            say(rt, b" bytes that begin");
+            say_bytes(rt, front(response, 4));
+        }
+        Ok(Some(length)) => say_bytes(rt, front(response, length)),
     }
     say(rt, b"\n");
 }
@@ -58,15 +59,15 @@ pub fn asked(
 {
     let mut response = [0u8; 255];
     let served = serve(record, request, functional, &mut response);
-    let reply = served.reply;
-    answered(rt, reply.told(), &response);
+    answered(rt, served.reply, &response);
     let mut after = record;
     let statuses = served.statuses;
     after.statuses = statuses;
     after
 }
 
-// A request: functional, physical, or one that clears, and behind that the report of all codes.
+// A request: functional, physical, or one that clears, and behind that the report of all codes. The letter is the table's, as it is
+// printed; an enum would be read from it and asked once.
 pub fn ask(rt: HostRuntime, record: TrailerRecord, letter: u8, case: &[u8]) {
     let after = asked(rt, record, part(case, b';', 0), letter == b'f');
     if letter == b'c' {
@@ -82,36 +83,37 @@ pub fn lengths(rt: HostRuntime, record: TrailerRecord, case: &[u8]) {
     let request = front(&bytes, value(case, 0, 10) as usize);
     let mut response = [0u8; 256];
     let room = (value(case, 1, 10) % 257) as usize;
-    let served = serve(record, request, false, &mut response[..room]);
-    let reply = served.reply;
-    let told = reply.told();
-    if !refused(rt, told.refusal) {
-        say_number(rt, b"answered in ", told.length);
-        say(rt, b"\n");
+    match serve(record, request, false, &mut response[..room]).reply {
+        Err(why) => {
+            refused(rt, why.number());
+        }
+        Ok(sent) => {
+            say_number(rt, b"answered in ", sent.unwrap_or(0));
+            say(rt, b"\n");
+        }
     }
 }
 
 // A name; then the first letters of fields (n: how many codes there are), each with the number that the field has in place of its own.
-pub fn kept(rt: HostRuntime, record: TrailerRecord, case: &[u8]) {
-    let fields = marks(case, b';') / 2;
-    let mut changed = record;
-    let mut k = 0;
-    while k < fields {
+// By number: `value` and `byte`, whose clauses speak of the k-th part, read the numbers.
+pub fn kept(rt: HostRuntime, mut record: TrailerRecord, case: &[u8]) {
+    for k in 0..marks(case, b';') / 2 {
         let given = byte(case, 2 * k + 2, 16);
         match letter(part(case, b';', 2 * k + 1)) {
-            b'a' => changed.availability = given,
-            b'c' => changed.codes[62] = value(case, 2 * k + 2, 16),
-            b'h' => changed.held = given,
-            b'i' => changed.identifiers[15] = given as u16,
-            b'l' => changed.lengths[14] = given,
-            b'n' => changed.count = given,
-            _ => changed.statuses[0] = given,
+            b'a' => record.availability = given,
+            b'c' => record.codes[62] = value(case, 2 * k + 2, 16),
+            b'h' => record.held = given,
+            b'i' => record.identifiers[15] = given as u16,
+            b'l' => record.lengths[14] = given,
+            b'n' => record.count = given,
+            _ => record.statuses[0] = given,
         }
-        k += 1;
     }
-    let told = check(changed).told();
-    if !refused(rt, told.refusal) {
-        say(rt, b"kept\n");
+    match check(&record) {
+        Err(why) => {
+            refused(rt, why.number());
+        }
+        Ok(()) => say(rt, b"kept\n"),
     }
 }
 
@@ -120,11 +122,7 @@ fn codes(rt: HostRuntime) {
     let mut record = faulty();
     record.count = 63;
     record.statuses = [0x08; 63];
-    let mut i = 0;
-    while i < 63 {
-        record.codes[i] = i as u32;
-        i += 1;
-    }
+    record.codes = array::from_fn(|i| i as u32);
     walk(
         rt,
         record,
@@ -141,11 +139,7 @@ fn identifiers(rt: HostRuntime) {
     let mut record = faulty();
     record.held = 16;
     record.lengths = [1; 16];
-    let mut i = 0;
-    while i < 16 {
-        record.identifiers[i] = i as u16 + 1;
-        i += 1;
-    }
+    record.identifiers = array::from_fn(|i| i as u16 + 1);
     walk(
         rt,
         record,
@@ -170,14 +164,17 @@ ask;256 bytes,$:|\x22\0\x01\0\x01\0\x01\0\x01\0\x01\0\x01\0\x01\0\x03|
 // A status, and the code that it is set of.
 pub fn set(rt: HostRuntime, record: TrailerRecord, case: &[u8]) {
     let done = set_status(record, value(case, 1, 16), byte(case, 0, 16));
-    let answer = done.answer;
-    let told = answer.told();
-    if !refused(rt, told.refusal) {
-        let mut after = record;
-        let statuses = done.statuses;
-        after.statuses = statuses;
-        say(rt, b"done, 19 0A:");
-        asked(rt, after, b"\x19\x0A", false);
+    match done.answer {
+        Err(why) => {
+            refused(rt, why.number());
+        }
+        Ok(()) => {
+            let mut after = record;
+            let statuses = done.statuses;
+            after.statuses = statuses;
+            say(rt, b"done, 19 0A:");
+            asked(rt, after, b"\x19\x0A", false);
+        }
     }
 }
 

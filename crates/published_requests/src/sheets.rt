@@ -3,6 +3,7 @@ use crate::records::faulty;
 use crate::walk;
 use published_lines::*;
 use sheet::*;
+use std::array;
 
 // Position 1, mask 08, availability 7F and count 2.
 const READING: [u8; 17] = *b"\x01\x00\x01\x01\x02\x00\x01\x08\x03\x00\x06\x59\x01\x7F\x03\x00\x02";
@@ -41,14 +42,9 @@ pub fn basis(rt: HostRuntime, case: &[u8]) {
 
 // 65,535 bytes are 3,855 readings; then one byte more.
 fn sizes(rt: HostRuntime) {
-    let mut input = [0u8; 65536];
-    let mut i = 0;
-    while i < 65535 {
-        input[i] = READING[i % 17];
-        i += 1;
-    }
+    let input: [u8; 65536] = array::from_fn(|i| READING[i % 17]);
     say(rt, b"sheet, 3,855 readings: ");
-    shown(rt, &input[..65535]);
+    shown(rt, front(&input, 65535));
     say(rt, b"sheet, one byte more: ");
     shown(rt, &input);
 }

@@ -2,19 +2,16 @@
 use crate::records::faulty;
 use crate::walk;
 use published_lines::*;
+use server::sound_mask;
+use std::array;
 
 // Table 11: of all 256 masks those that keep the rule.
 pub fn masks(rt: HostRuntime) {
     say(rt, b"000 table 11, masks that keep the rule:");
-    let mut count: usize = 0;
-    let mut mask: usize = 0;
-    while mask < 256 {
-        if server::sound_mask(mask as u8) {
-            say_byte(rt, b" ", mask as u8);
-            count += 1;
-        }
-        mask += 1;
+    for mask in (0..=u8::MAX).filter(|mask| sound_mask(*mask)) {
+        say_byte(rt, b" ", mask);
     }
+    let count = (0..=u8::MAX).filter(|mask| sound_mask(*mask)).count();
     say_number(rt, b"\n000 table 11, of 256 masks ", count);
     say(rt, b" keep the rule\n");
 }
@@ -24,14 +21,10 @@ fn identifiers(rt: HostRuntime) {
     let mut record = faulty();
     record.held = 16;
     let held = b"F000;F002;F187;F188;F189;F18A;F18B;F18C;F18D;F190;F191;F192;F193;F194;F195;F197";
-    let mut i = 0;
-    while i < 512 {
-        let place = i / 32;
-        record.identifiers[place] = (value(held, place, 16) % 65536) as u16;
-        record.lengths[place] = byte(b"1;1;2;2;2;3;3;3;1;17;2;2;2;2;2;5", place, 10);
-        record.bytes[i] = place as u8;
-        i += 1;
-    }
+    let lengths = b"1;1;2;2;2;3;3;3;1;17;2;2;2;2;2;5";
+    record.identifiers = array::from_fn(|place| (value(held, place, 16) % 65536) as u16);
+    record.lengths = array::from_fn(|place| byte(lengths, place, 10));
+    record.bytes = array::from_fn(|i| (i / 32) as u8);
     walk(
         rt,
         record,

@@ -1,105 +1,75 @@
 // trial: its two words, and the bytes and lines of standard input counted, as one line on standard output.
 #![tactic(auto)]
 
-ghost use Rattle.std.specs.Prelude.{◌≡◌, true, ◌+◌, ◌^◌, ◌≤◌, ◌<◌, ◌++◌, length};
+ghost use Rattle.std.specs.Prelude.{◌≡◌, ◌+◌, ◌^◌, ◌≤◌, ◌<◌, ◌++◌, length};
 ghost use Rattle.identifiers.specs.Bytes.{Puts};
 ghost use Rattle.text.specs.Digits.{decimal, blank, newlines};
-ghost use Rattle.trial.specs.Trial.{trial_text, own_is_trailer, lines_within};
+ghost use Rattle.trial.specs.Trial.{trial_text, own_is_trailer};
 
-use input::Input;
-use text::DigitsRead;
-
-// What the words ask for; OWN is 1 to 5.
+// What the words ask for.
 #[derive(Clone, Copy)]
-enum Asked {
-    Words { mask: u8, own: usize },
-    Other,
+struct Words {
+    mask: u8,
+    own: usize,
+    ghost is_trailer: { own_is_trailer own },
 }
 
 #[derive(Clone, Copy)]
 struct Counted {
     bytes: usize,
     lines: usize,
+    ghost lines_within: { lines ≤ bytes },
 }
 
-#[derive(Clone, Copy)]
-enum Counting {
-    Done(Counted),
-    Failed,
-}
-
-#[tactic(auto, using(crate::proofs::LawsTrial::other_asked, crate::proofs::LawsTrial::words_asked))]
-fn read_words(rt: HostRuntime) -> Asked
-    ensures { own_is_trailer result ≡ true }
-{
+fn read_words(rt: HostRuntime) -> Option<Words> {
     if input::words(rt) != 2 {
-        return Asked::Other;
+        return None;
     }
-    let DigitsRead::Number(mask) = input::hex_word(rt, 1, 2) else {
-        return Asked::Other;
-    };
-    let DigitsRead::Number(own) = input::decimal_word(rt, 2, 1) else {
-        return Asked::Other;
-    };
-    if own < 1 {
-        return Asked::Other;
+    let mask = input::hex_word(rt, 1, 2)?;
+    let own = input::decimal_word(rt, 2, 1)?;
+    if !(1..=5).contains(&own) {
+        return None;
     }
-    if 5 < own {
-        return Asked::Other;
-    }
-    Asked::Words {
+    Some(Words {
         mask: mask as u8,
         own: own as usize,
-    }
+    })
 }
 
+#[tactic(auto, using(text::proofs::LawsDigits::newlines_count))]
 fn count_newlines(chunk: &[u8]) -> usize
     ensures { result ≡ newlines chunk.now }
 {
-    let mut lines = 0;
-    let mut i = 0;
-    while i < chunk.len() {
-        if chunk[i] == 10 {
-            lines += 1;
-        }
-        i += 1;
-    }
-    lines
+    chunk.iter().filter(|b| **b == b'\n').count()
 }
 
+#[tactic(auto, using(crate::proofs::LawsCounts::lines_within))]
 fn count_chunk(counted: Counted, chunk: &[u8]) -> Counted
-    requires { (counted.lines ≤ counted.bytes) × (counted.bytes + length chunk.now < 2 ^ 64) }
+    requires { counted.bytes + length chunk.now < 2 ^ 64 }
     ensures bytes_value { result.bytes ≡ counted.bytes + length chunk.now }
     ensures lines_value { result.lines ≡ counted.lines + newlines chunk.now }
 {
-    let lines = count_newlines(chunk);
     Counted {
         bytes: counted.bytes + chunk.len(),
-        lines: counted.lines + lines,
+        lines: counted.lines + count_newlines(chunk),
     }
 }
 
 // Standard input to its end. More turns than can be counted are told as a read that failed.
-fn count_input(rt: HostRuntime) -> Counting
-    ensures { lines_within result ≡ true }
-{
+fn count_input(rt: HostRuntime) -> Option<Counted> {
     let mut buffer = [0u8; input::CHUNK];
     let mut counted = Counted { bytes: 0, lines: 0 };
-    let mut turns = input::MOST_CHUNKS;
-    while 0 < turns {
-        let Input::Bytes(n) = input::read_chunk(rt, &mut buffer) else {
-            return Counting::Failed;
-        };
+    for _ in 0..input::MOST_CHUNKS {
+        let n = input::read_chunk(rt, &mut buffer).ok()?;
         if n == 0 {
-            return Counting::Done(counted);
+            return Some(counted);
         }
         counted = count_chunk(counted, &buffer[..n]);
-        turns -= 1;
     }
-    Counting::Failed
+    None
 }
 
-// A blank and a number, where there is room for 21 bytes.
+// A blank and a number, where there is room for 21 bytes. Page and place stand apart, as in the functions of `text`, for their reason.
 fn put_number(page: &mut [u8], at: usize, number: usize) -> usize
     ensures { at + 21 ≤ length page.old → Puts page.old at (blank ++ decimal number) result page.new }
 {
@@ -107,44 +77,35 @@ fn put_number(page: &mut [u8], at: usize, number: usize) -> usize
     text::put_decimal(page, digits, number)
 }
 
-fn compose(page: &mut [u8], mask: u8, own: usize, bytes: usize, lines: usize) -> usize
+fn compose(page: &mut [u8], words: Words, counted: Counted) -> usize
     requires { 66 ≤ length page.old }
-    ensures puts { Puts page.old 0 (trial_text mask own bytes lines) result page.new }
+    ensures puts { Puts page.old 0 (trial_text words.mask words.own counted.bytes counted.lines) result page.new }
     ensures upper_bound { result ≤ length page.new }
 {
-    let mut at = text::put_hex(page, 0, mask);
-    at = put_number(page, at, own);
-    at = put_number(page, at, bytes);
-    at = put_number(page, at, lines);
+    let mut at = text::put_hex(page, 0, words.mask);
+    at = put_number(page, at, words.own);
+    at = put_number(page, at, counted.bytes);
+    at = put_number(page, at, counted.lines);
     text::put(page, at, b"\n")
 }
 
-// The only place that writes to standard output. Who calls it has shown that OWN is 1 to 5, and that the text is that of the
-// numbers.
-fn send(rt: HostRuntime, mask: u8, own: usize, bytes: usize, lines: usize, text: &[u8])
-    requires { ((1 ≤ own) × (own ≤ 5)) × (text.now ≡ trial_text mask own bytes lines) }
+// The only place that writes to standard output. Who calls it has shown that the text is that of the words and the counts.
+fn send(rt: HostRuntime, words: Words, counted: Counted, text: &[u8])
+    requires { text.now ≡ trial_text words.mask words.own counted.bytes counted.lines }
 {
     input::write(rt, b"trial", text);
 }
 
-fn answer(rt: HostRuntime, mask: u8, own: usize)
-    requires { (1 ≤ own) × (own ≤ 5) }
-{
-    let Counting::Done(counted) = count_input(rt) else {
-        input::unread(rt, b"trial");
-        return;
-    };
-    let bytes = counted.bytes;
-    let lines = counted.lines;
-    let mut page = [0u8; 80];
-    let end = compose(&mut page, mask, own, bytes, lines);
-    send(rt, mask, own, bytes, lines, &page[..end]);
-}
-
 fn main(rt: HostRuntime) {
-    let Asked::Words { mask, own } = read_words(rt) else {
+    let Some(words) = read_words(rt) else {
         input::usage(rt, b"trial MASK OWN < FILE");
         return;
     };
-    answer(rt, mask, own);
+    let Some(counted) = count_input(rt) else {
+        input::unread(rt, b"trial");
+        return;
+    };
+    let mut page = [0u8; 80];
+    let end = compose(&mut page, words, counted);
+    send(rt, words, counted, &page[..end]);
 }

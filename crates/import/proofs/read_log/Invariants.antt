@@ -2,8 +2,5 @@
 use Rattle.import.proofs.LawsRead.{Looping}
 use Rattle.import.proofs.read_log.Given as goal
 
-abbrev pub invariant-loop-turns : goal.invariant-loop-turns
-invariant-loop-turns l = Looping l.buffer l.counts l.held l.turns
-
-abbrev pub decreases-loop-turns : goal.decreases-loop-turns
-decreases-loop-turns l = l.turns
+abbrev pub invariant-loop-turn : goal.invariant-loop-turn
+invariant-loop-turn l = Looping l.buffer l.counts l.held l._turn

@@ -13,7 +13,7 @@ pub slice_bounds-send-end : goal.slice_bounds-send-end
 slice_bounds-send-end c = sym (length-take-le _ _ (print-fits _ (length-replicate {A = ℕ} page_size 0) c.print-end.ensures))
 
 pub send-requires : goal.send-requires
-send-requires c = (c.requires.0, print-whole _ (length-replicate {A = ℕ} page_size 0) c.print-end.ensures ∙ (refused-text _ c.requires.1).0)
+send-requires c = print-whole _ (length-replicate {A = ℕ} page_size 0) c.print-end.ensures ∙ (refused-text _ c.requires).0
 
 pub slice_bounds-page-end-then-send : goal.slice_bounds-page-end-then-send
 slice_bounds-page-end-then-send c = print-fits _ (length-replicate {A = ℕ} page_size 0) c.print-end.ensures
@@ -22,4 +22,4 @@ pub slice_bounds-list-end : goal.slice_bounds-list-end
 slice_bounds-list-end c = sym (length-take-le _ _ (print-fits _ (length-replicate {A = ℕ} page_size 0) c.print-end.ensures))
 
 pub list-requires : goal.list-requires
-list-requires c = print-whole _ (length-replicate {A = ℕ} page_size 0) c.print-end.ensures ∙ (refused-text _ c.requires.1).1
+list-requires c = print-whole _ (length-replicate {A = ℕ} page_size 0) c.print-end.ensures ∙ (refused-text _ c.requires).1

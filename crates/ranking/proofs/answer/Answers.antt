@@ -1,10 +1,7 @@
 -- `answer` meets its contract: no more bytes were read than the buffer has.
 use Rattle.std.proofs.Common.{sym, length-take-le}
-use Rattle.input.proofs.LawsWithin.{within-bytes}
+use Rattle.input.proofs.LawsWithin.{within_bytes}
 use Rattle.ranking.proofs.answer.Goals as goal
 
-pub slice_bounds-buffer-end : goal.slice_bounds-buffer-end
-slice_bounds-buffer-end c = within-bytes _ _ _ c.in-Bytes.is c.read_whole.ensures
-
 pub slice_bounds-print_page-end : goal.slice_bounds-print_page-end
-slice_bounds-print_page-end c = sym (length-take-le _ _ (within-bytes _ _ _ c.in-Bytes.is c.read_whole.ensures))
+slice_bounds-print_page-end c = sym (length-take-le _ _ (within_bytes _ _ _ c.in-Ok.is c.read_whole.ensures))

@@ -12,4 +12,4 @@ pub slice_bounds-send-end : goal.slice_bounds-send-end
 slice_bounds-send-end c = sym (length-take-le _ _ (rank-fits _ _ (length-replicate {A = ℕ} page_size 0) c.rank-end.ensures))
 
 pub send-requires : goal.send-requires
-send-requires c = (c.requires, rank-whole _ _ (length-replicate {A = ℕ} page_size 0) c.rank-end.ensures)
+send-requires c = rank-whole _ _ (length-replicate {A = ℕ} page_size 0) c.rank-end.ensures

@@ -1,9 +1,6 @@
--- With the turns that are left, the counts of `count_input` stay within 2^63.
-use Rattle.std.proofs.Common.{◌≡◌, ◌+◌, ◌*◌, ◌^◌, ◌≤◌, length}
+-- Each turn of `count_input` counts at most 65,536 bytes, and no more lines than bytes: the two counts stand as a pair here.
+use Rattle.std.proofs.Common.{◌*◌, ◌≤◌}
 use Rattle.trial.proofs.count_input.Given as goal
 
-abbrev pub invariant-loop-turns : goal.invariant-loop-turns
-invariant-loop-turns l = (65536 ≡ length l.buffer) × ((l.counted.bytes + 65536 * l.turns ≤ 2 ^ 63) × (l.counted.lines ≤ l.counted.bytes))
-
-abbrev pub decreases-loop-turns : goal.decreases-loop-turns
-decreases-loop-turns l = l.turns
+abbrev pub invariant-loop : goal.invariant-loop
+invariant-loop l = (l.counted.0 ≤ 65536 * l.counter) × (l.counted.1.0 ≤ l.counted.0)

@@ -1,6 +1,6 @@
--- `main` shows what `answer` asks: OWN is 1 to 5.
-use Rattle.trial.proofs.LawsTrial.{asked-words}
+-- `main` shows what `send` asks: the bytes written are the definition's text of the numbers.
+use Rattle.text.proofs.LawsPutting.{put-stands}
 use Rattle.trial.proofs.main.Goals as goal
 
-pub answer-requires : goal.answer-requires
-answer-requires c = asked-words _ c.in-Words.is c.read_words.ensures
+pub send-requires : goal.send-requires
+send-requires c = put-stands c.compose-end.ensures.upper_bound c.compose-end.ensures.puts

@@ -1,14 +1,14 @@
--- `put_summary` meets its contract: by the answer's two cases.
+-- `put_summary` meets its contract: by the two cases.
+use Rattle.std.proofs.Common.{ℕ, ◌∙◌, sym, ap}
+use Rattle.importing.specs.Summaries.{refused_text}
 use Rattle.identifiers.proofs.LawsBytes.{puts-as}
-use Rattle.import.proofs.LawsSummary.{summary-done, summary-refused}
+use Rattle.importing.proofs.LawsSummaries.{counts-text, refused-text}
+use Rattle.import.specs.Counting.{summary_of}
 use Rattle.import.proofs.summary.put_summary.Goals as goal
 
-pub returns-in-Done : goal.returns-in-Done
-returns-in-Done c =
-    let put = c.put_two.ensures in
-    record { puts = puts-as put.puts (summary-done _ c.in-Done.is); upper_bound = put.upper_bound }
+pub returns-in-Ok-clause-puts : goal.returns-in-Ok-clause-puts
+returns-in-Ok-clause-puts c = puts-as c.put_two.ensures.puts (counts-text _ _ ∙ ap summary_of (sym c.in-Ok.is))
 
-pub returns-in-Refused : goal.returns-in-Refused
-returns-in-Refused c =
-    let put = c.put_two-in-Refused.ensures in
-    record { puts = puts-as put.puts (summary-refused _ c.in-Refused.is c.number.ensures); upper_bound = put.upper_bound }
+pub returns-in-Err-clause-puts : goal.returns-in-Err-clause-puts
+returns-in-Err-clause-puts c =
+    puts-as c.put_two-in-Err.ensures.puts (refused-text _ _ ∙ ap (λ (k : ℕ). refused_text k c.in-Err.bad.line) c.number.ensures ∙ ap summary_of (sym c.in-Err.is))

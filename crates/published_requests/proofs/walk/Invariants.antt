@@ -1,9 +1,0 @@
--- `walk` goes through the parts of the table once.
-use Rattle.std.proofs.Common.{◌-◌, ◌≤◌}
-use Rattle.published_requests.proofs.walk.Given as goal
-
-abbrev pub invariant-loop-k : goal.invariant-loop-k
-invariant-loop-k l = l.k ≤ l.count
-
-abbrev pub decreases-loop-k : goal.decreases-loop-k
-decreases-loop-k l = l.count - l.k
