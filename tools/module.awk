@@ -82,7 +82,7 @@ function look(line,    part, n, i, rest, shape) {
 
 # The line for a processor with 32-bit addresses: where an address lies behind a small number, and how two are told apart.
 function placed(line) {
-    if (way != "inner") return line
+    if (triple !~ /^(armv7|thumbv7em)-/) return line
     if (index(line, tagged) && line ~ / = extractvalue /) sub(/, 1$/, ", 2", line)
     sub(/\{ i8, ptr \}/, "{ i8, [7 x i8], ptr }", line)
     sub(/ = ptrtoaddr ptr /, " = ptrtoint ptr ", line)

@@ -10,7 +10,7 @@ use Rattle.import.specs.Counting.{counts_of, TakesLines, FindsBad, Ends}
 use Rattle.import.specs.declared.counting.Counts.{Counts}
 use Rattle.import.specs.declared.counting.BadLine.{BadLine}
 use Rattle.import.specs.declared.counting.Taken.{Taken}
-use Rattle.import.proofs.LawsStanding.{standing-more, whole-ends, newline-same, none_left}
+use Rattle.import.proofs.LawsStanding.{standing-more, refused-ends, whole-ends, newline-same, none_left}
 
 -- the bytes that are held, and a newline behind them
 pub with_newline : (buffer : List ℕ) {held : ℕ} → held < length buffer → take (held + 1) (set buffer held 10) ≡ take held buffer ++ (10 ∷ [])
@@ -25,4 +25,4 @@ module _ (c : Counts) (rest : List ℕ) (some : 1 ≤ length rest) where
       }
 
   pub ends-bad : {b : BadLine} → FindsBad c (rest ++ (10 ∷ [])) b → Ends c rest (Err b)
-  ends-bad k = record { ends = λ log s h. ap counts_of (newline-same s h some) ∙ k.refuses (log ++ (10 ∷ [])) (standing-more s (10 ∷ [])) }
+  ends-bad k = record { ends = λ log s h. ap counts_of (newline-same s h some) ∙ refused-ends (log ++ (10 ∷ [])) (k.stops (log ++ (10 ∷ [])) (standing-more s (10 ∷ []))) }

@@ -15,7 +15,7 @@ use Rattle.import.specs.Counting.{counts_of, begun_counts, Counted, Ready, Stand
 use Rattle.import.specs.declared.counting.Counts.{Counts}
 use Rattle.import.specs.declared.counting.BadLine.{BadLine}
 use Rattle.import.specs.declared.counting.Taken.{Taken}
-use Rattle.import.proofs.LawsStanding.{standing-first, standing-more, long-ends}
+use Rattle.import.proofs.LawsStanding.{standing-first, standing-more, refused-ends, long-ends}
 
 -- this is what the import of a log counts
 abbrev pub OfLog : Result Counts BadLine → Type 0
@@ -83,7 +83,7 @@ module _ {buffer : List ℕ} {c : Counts} {held turn end : ℕ} (u : Turn buffer
 
   -- a line was refused
   pub read-bad : {b : BadLine} → FindsBad c (take end buffer) b → OfLog (Err b)
-  read-bad f = (text-log, sym (f.refuses text-log stands-text))
+  read-bad f = (text-log, sym (refused-ends text-log (f.stops text-log stands-text)))
 
   pub text-long : length (take end buffer) ≡ end
   text-long = length-take-le end buffer (omega (arith, u.looping.long, u.within))

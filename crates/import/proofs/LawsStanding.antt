@@ -14,7 +14,7 @@ use Rattle.logs.specs.Lines.{line_read}
 use Rattle.logs.specs.Fronts.{in_line, front_end}
 use Rattle.logs.proofs.LawsLines.{line-long}
 use Rattle.logs.proofs.LawsFronts.{front_cut, front-in-line, ends-line}
-use Rattle.importing.specs.Logs.{LogRead, begun, took_line, going, holding, took, at_end, imported}
+use Rattle.importing.specs.Logs.{LogRead, refused_at, begun, took_line, going, holding, took, at_end, imported}
 use Rattle.importing.proofs.LawsLogs.{goes_on, stops, line_frame, line-over, line_refused, line-holds-none, took-append, took-stops, took-front, took-begun, at-end-none, at-end-stopped, at-end-line, imported-is, took-none, at-end-is}
 use Rattle.import.specs.Counting.{counts_by, counts_of, begun_counts, next_counts, Counted, Standing}
 use Rattle.import.specs.declared.counting.Counts.{Counts}
@@ -38,13 +38,6 @@ module _ (r : LogRead) where
       by_answer : (a : Result (Unit {0}) Refusal) → r.answer ≡ a → counts_by a r.lines r.frames r.passed ≡ Ok c → Known r c
       by_answer (Ok u) q f = record { goes = q; lines = cc; frames = cc; passed = cc }
       by_answer (Err why) q f = cc
-
-  stops-bad : {b : BadLine} → counts_of r ≡ Err b → going r.answer ≡ false
-  stops-bad {b} e = by_answer r.answer refl e
-    where
-      by_answer : (a : Result (Unit {0}) Refusal) → r.answer ≡ a → counts_by a r.lines r.frames r.passed ≡ Err b → going r.answer ≡ false
-      by_answer (Ok u) q f = cc
-      by_answer (Err why) q f = stops q
 
   -- a line more
   counts-next : {c : Counts} → counts_of r ≡ Ok c → counts_of (took_line r) ≡ next_counts c (line_read r.held)
@@ -70,6 +63,15 @@ next-counted c (Ok None) {n} k e =
     let p : n.passed ≡ c.passed + 1 = cc in
     (record { frames = omega (arith, k.frames); passed = omega (arith, k.passed) }, l)
 next-counted c (Err why) k e = cc
+
+pub bad-counted : (c : Counts) (a : LineRead) {b : BadLine} → Err b ≡ next_counts c a → b.line ≡ c.lines + 1
+bad-counted c (Ok (Some f)) e = cc
+bad-counted c (Ok None) e = cc
+bad-counted c (Err why) e = cc
+
+-- a log that is refused is read to its end as refused
+pub refused-ends : (log : List ℕ) {b : BadLine} → took begun log ≡ refused_at b.line b.refusal → counts_of (imported log) ≡ Err b
+refused-ends log {b} e = ap counts_of (imported-is log ∙ ap at_end e ∙ at-end-stopped (refused_at b.line b.refusal) (stops refl))
 
 no_byte : (l : List ℕ) → length l ≡ 0 → l ≡ []
 no_byte [] e = refl
@@ -109,17 +111,29 @@ module _ {log : List ℕ} {c : Counts} {rest : List ℕ} (s : Standing log c res
     pub standing-line : {n : Counts} → Ok n ≡ next_counts c (line_read line) → Standing log n (drop (front_end rest + 1) rest)
     standing-line e = record { state = after; clean = line-holds-none (holding s.state line); counts = line-counts ∙ sym e; reads = line-reads }
 
-    pub bad-ends : {b : BadLine} → Err b ≡ next_counts c (line_read line) → counts_of (imported log) ≡ Err b
-    bad-ends e =
-        let n : counts_of after ≡ Err _ = line-counts ∙ sym e in
-        let g = stops-bad after n in
-        ap counts_of (imported-is log ∙ ap at_end (line-reads ∙ took-stops after (drop (front_end rest + 1) rest) g) ∙ at-end-stopped after g) ∙ n
+    -- a bad line: behind it nothing else is known
+    pub bad-stops : {b : BadLine} → Err b ≡ next_counts c (line_read line) → took begun log ≡ refused_at b.line b.refusal
+    bad-stops {b} e = by_line (line_read line) refl e
+      where
+        by_line : (a : LineRead) → line_read line ≡ a → Err b ≡ next_counts c a → took begun log ≡ refused_at b.line b.refusal
+        by_line (Ok (Some f)) q d = cc
+        by_line (Ok None) q d = cc
+        by_line (Err why) q d =
+            let r : after ≡ refused_at (s.state.lines + 1) why = line_refused (holding s.state line) why q in
+            let lines : b.line ≡ s.state.lines + 1 = bad-counted c (Err why) d ∙ ap (λ (k : ℕ). k + 1) (sym (known s.state s.counts).lines) in
+            let whys : b.refusal ≡ why = cc in
+            line-reads ∙ took-stops after (drop (front_end rest + 1) rest) (stops (ap (λ (k : LogRead). k.answer) r)) ∙ r ∙ rw (lines, whys)
 
   -- ---- the end
-  pub whole-ends : length rest ≡ 0 → counts_of (imported log) ≡ Ok c
-  whole-ends e =
-      let r : took begun log ≡ s.state = s.reads ∙ ap (took s.state) (no_byte rest e) ∙ took-none s.state in
-      ap counts_of (imported-is log ∙ ap at_end r ∙ at-end-none s.state s.clean) ∙ s.counts
+  module _ (e : length rest ≡ 0) where
+    whole-state : took begun log ≡ s.state
+    whole-state = s.reads ∙ ap (took s.state) (no_byte rest e) ∙ took-none s.state
+
+    pub whole-counts : counts_of (took begun log) ≡ Ok c
+    whole-counts = ap counts_of whole-state ∙ s.counts
+
+    pub whole-ends : counts_of (imported log) ≡ Ok c
+    whole-ends = ap counts_of (imported-is log ∙ ap at_end whole-state ∙ at-end-none s.state s.clean) ∙ s.counts
 
   module _ (h : Each in_line rest) where
     held-state : took begun log ≡ holding s.state rest
@@ -128,12 +142,18 @@ module _ {log : List ℕ} {c : Counts} {rest : List ℕ} (s : Standing log c res
     last-line : 1 ≤ length rest → imported log ≡ took_line (holding s.state rest)
     last-line n = imported-is log ∙ ap at_end held-state ∙ at-end-line (holding s.state rest) state-goes n
 
+    -- a last line without newline, as if it had one
+    pub last-ends : 1 ≤ length rest → imported log ≡ took begun (log ++ (10 ∷ []))
+    last-ends n =
+        imported-is log ∙ ap at_end held-state ∙ at-end-is (holding s.state rest) state-goes n
+        ∙ ap (λ (r : LogRead). took r (10 ∷ [])) (sym held-state)
+        ∙ sym (took-append begun log (10 ∷ []))
+
     -- a newline that ends the last line changes nothing
     pub newline-same : 1 ≤ length rest → imported log ≡ imported (log ++ (10 ∷ []))
     newline-same n =
         let q = holding s.state rest in
-        let t : took begun (log ++ (10 ∷ [])) ≡ took_line q =
-        took-append begun log (10 ∷ []) ∙ ap (λ (r : LogRead). took r (10 ∷ [])) held-state ∙ sym (at-end-is q state-goes n) ∙ at-end-line q state-goes n in
+        let t : took begun (log ++ (10 ∷ [])) ≡ took_line q = sym (last-ends n) ∙ last-line n in
         last-line n ∙ sym (imported-is (log ++ (10 ∷ [])) ∙ ap at_end t ∙ at-end-none (took_line q) (line-holds-none q))
 
     -- a line that is too long whatever follows

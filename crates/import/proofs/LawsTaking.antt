@@ -13,7 +13,7 @@ use Rattle.logs.proofs.LawsFronts.{Ended, front-ended}
 use Rattle.import.specs.Counting.{next_counts, Counted, Standing, TakesLines, FindsBad}
 use Rattle.import.specs.declared.counting.Counts.{Counts}
 use Rattle.import.specs.declared.counting.BadLine.{BadLine}
-use Rattle.import.proofs.LawsStanding.{next-counted, standing-line, bad-ends}
+use Rattle.import.proofs.LawsStanding.{next-counted, bad-counted, standing-line, bad-stops}
 
 -- what the front of the bytes that are left was read as
 pub front-is : (text : List ℕ) (at : ℕ) {f : Option Front} → f ≡ front_read (take (length text - at) (drop at text)) → f ≡ front_read (drop at text)
@@ -57,4 +57,8 @@ module _ {before : Counts} {text : List ℕ} {c : Counts} {at : ℕ} (t : Taking
         }
 
     pub finds-bad : {b : BadLine} → Err b ≡ next_counts c f.line → FindsBad before text b
-    finds-bad e = record { refuses = λ log s. bad-ends (t.stands log s) front.inside (e ∙ ap (next_counts c) front.reads) }
+    finds-bad e =
+        record {
+          stops = λ log s. bad-stops (t.stands log s) front.inside (e ∙ ap (next_counts c) front.reads);
+          few = omega (arith, bad-counted c f.line e, t.few, line-ends, line-some);
+        }

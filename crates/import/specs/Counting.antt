@@ -5,7 +5,7 @@ use Rattle.identifiers.specs.declared.refusal.Refusal.{Refusal}
 use Rattle.logs.specs.Grammar.{Each}
 use Rattle.logs.specs.Outcomes.{LineRead}
 use Rattle.logs.specs.Fronts.{in_line}
-use Rattle.importing.specs.Logs.{LogRead, begun, took, imported}
+use Rattle.importing.specs.Logs.{LogRead, refused_at, begun, took, imported}
 use Rattle.importing.specs.Summaries.{counts_text, refused_text}
 use Rattle.import.specs.declared.counting.Counts.{Counts}
 use Rattle.import.specs.declared.counting.BadLine.{BadLine}
@@ -56,9 +56,10 @@ pub record TakesLines (c : Counts) (text : List ℕ) (t : Taken) : Type 0 where
   pub counted : Counted t.counts
   pub few : t.counts.lines ≤ c.lines + length text
 
--- or one of them is refused: of every log that stands so, it is the first bad line
+-- or one of them is refused: every log that stands so is refused there already, whatever follows
 pub record FindsBad (c : Counts) (text : List ℕ) (b : BadLine) : Type 0 where
-  pub refuses : (log : List ℕ) → Standing log c text → counts_of (imported log) ≡ Err b
+  pub stops : (log : List ℕ) → Standing log c text → took begun log ≡ refused_at b.line b.refusal
+  pub few : b.line ≤ c.lines + length text
 
 abbrev pub Takes : Counts → List ℕ → Result Taken BadLine → Type 0
 Takes c text (Ok t) = TakesLines c text t

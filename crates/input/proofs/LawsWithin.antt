@@ -10,6 +10,7 @@ use native.Mathlib.Omega.{arith}
 use borrow.Author.Tests.{leb-true, le-leb, ltb-true, lt-ltb}
 use lib.Dec.{ltb}
 use lib.ListN.{length, take, drop, length-take, length-drop}
+use lib.Seq.{length-take-le}
 use Rattle.identifiers.proofs.LawsChoice.{left-holds, right-holds}
 use Rattle.text.specs.Reading.{digits_read}
 use Rattle.text.proofs.LawsReading.{value-below}
@@ -41,6 +42,10 @@ pub more_within : {E : Type 0} (buffer : List ℕ) (room at n : ℕ) (r : Result
 more_within buffer room at n r h l e w =
     let rest : length (take (length buffer - at) (drop at buffer)) ≡ length buffer - at = simp (length-take, length-drop) (omega arith) in
     omega (arith, within_bytes room n r e w)
+
+-- a chunk is no longer than its buffer
+pub chunk-length : {E : Type 0} (buffer : List ℕ) {n most : ℕ} {r : Result ℕ E} → r ≡ Ok n → within (length buffer) r ≡ true → length buffer ≡ most → length (take n buffer) ≤ most
+chunk-length buffer {n} e w l = let h = within_bytes _ n _ e w in omega (arith, length-take-le n buffer h, h, l)
 
 -- ---- numbers
 pub none_below : (bound : ℕ) → below bound None ≡ true

@@ -225,3 +225,6 @@ module _ {t seconds micros blanks interface name digits tail : List ℕ} (f : Fo
 
   pub form-cut : t ≡ line_of ++ tail
   form-cut = f.whole ∙ sym (simp append_assoc)
+
+  pub form-line : length line_of ≤ 255 → IsLine line_of seconds micros blanks interface name digits
+  form-line h = record { whole = refl; short = h; made = f.made }

@@ -13,13 +13,13 @@ use lib.Seq.{take-suc, take_all}
 use Rattle.std.specs.Prelude.{Option, Some, None}
 use Rattle.std.specs.Bool.{then_some}
 use Rattle.identifiers.specs.Choice.{pick, both}
-use Rattle.identifiers.proofs.LawsChoice.{and_is, taken, passed, stop, so}
+use Rattle.identifiers.proofs.LawsChoice.{and_is, pick_true, pick-false, taken, passed, stop, so}
 use Rattle.text.specs.Digits.{digit_value, value_from, is_digit}
 use Rattle.text.specs.Reading.{all_digits}
 use Rattle.text.proofs.LawsDigits.{value-append}
 use Rattle.text.proofs.LawsReading.{digits-none, digits_last, value_none}
 use Rattle.text.proofs.LawsValue.{digit-test, value-most, within, range-test, worth-decimal, decimal-test}
-use Rattle.logs.specs.Parts.{part, digits_in, digits_said, end_of, Ran}
+use Rattle.logs.specs.Parts.{part, digits_in, digits_said, value_said, end_of, Ran}
 use Rattle.logs.proofs.LawsRuns.{end-past, end_more, end-stop, end-near, part_none, part-more}
 
 -- ---- what digits say modulo 2^32
@@ -83,6 +83,9 @@ module _ {l : List ℕ} {from end value : ℕ} (r : Ran l from end value) where
   pub ran-near : (m : ℕ) → from ≤ m → length l ≤ m → end ≤ m
   ran-near m a b = rw r.ends (end-near (is_digit 10) l from m a b)
 
+  pub ran-small : value < 2 ^ 32
+  ran-small = omega (arith, r.says)
+
 -- ---- digits between two places: i of them looked at
 pub record Reading (base : ℕ) (xs : List ℕ) (good : Bool) (value i : ℕ) : Type 0 where
   pub goods : good ≡ all_digits base (take i xs)
@@ -129,6 +132,14 @@ module _ (base : ℕ) (l : List ℕ) (from to : ℕ) where
   pub found-short : length l < to → None ≡ digits_said base l from to
   unfolding digits_said digits_in
   found-short h = passed _ (sym (stop _ (lt-leb _ _ h))) refl
+
+  pub value-short : length l < to → 0 ≡ value_said base l from to
+  unfolding value_said
+  value-short h = sym (pick-false _ _ (lt-leb _ _ h))
+
+  pub value-whole : {xs : List ℕ} {good : Bool} {value i : ℕ} → to ≤ length l → xs ≡ part l from to → length xs ≤ i → Reading base xs good value i → value ≡ value_said base l from to
+  unfolding value_said
+  value-whole {xs} {good} {value} {i} h e d r = r.says ∙ ap (λ (y : List ℕ). value_from base 0 y % 2 ^ 32) (take_all i xs d ∙ e) ∙ sym (pick_true _ _ (le-leb _ _ h))
 
   pub found-whole : {xs : List ℕ} {good : Bool} {value i : ℕ} → to ≤ length l → xs ≡ part l from to → length xs ≤ i → Reading base xs good value i
       → then_some good value ≡ digits_said base l from to

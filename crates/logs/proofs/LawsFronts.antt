@@ -18,14 +18,14 @@ use Rattle.text.specs.Digits.{between, is_digit}
 use Rattle.text.proofs.LawsValue.{within, none_below}
 use Rattle.logs.specs.Grammar.{Each, IsLine, Formed, number_of_name}
 use Rattle.logs.specs.Grammar.Each.{one}
-use Rattle.logs.specs.Parts.{run_length}
+use Rattle.logs.specs.Parts.{run_length, end_of}
 use Rattle.logs.specs.Lines.{end_at, begins, said, line_read}
 use Rattle.logs.specs.Scans.{scanned}
 use Rattle.logs.specs.Fronts.{in_line, front_end, front_read}
 use Rattle.logs.specs.declared.read.Front.{Front}
 use Rattle.logs.specs.declared.scan.Scanned.{Scanned}
 use Rattle.logs.proofs.LawsFound.{some_picked, none_picked}
-use Rattle.logs.proofs.LawsRuns.{run-prefix, run_of, run-each, run-stopped, stands, cut-byte, each_append, each-so}
+use Rattle.logs.proofs.LawsRuns.{run-le, run-prefix, run_of, run-each, run-stopped, stands, cut-byte, each_append, each-so}
 use Rattle.logs.proofs.LawsLines.{scan-some, scan-none}
 use Rattle.logs.proofs.LawsForms.{Form, end-length, form-begins, line-form}
 use Rattle.logs.proofs.LawsBegins.{begins-line, end-near}
@@ -62,7 +62,15 @@ is_newline : (b : ℕ) → in_line b ≡ false → b ≡ 10
 unfolding in_line
 is_newline b e = eqb-true _ _ (not-false _ e)
 
+pub end_is : (t : List ℕ) → end_of in_line t 0 ≡ front_end t
+unfolding end_of front_end
+end_is t = omega arith
+
 -- ---- where the front line ends
+pub front-le : (t : List ℕ) → front_end t ≤ length t
+unfolding front_end
+front-le t = run-le in_line t
+
 -- the bytes before a newline that is the first
 pub front_of : (l rest : List ℕ) → Each in_line l → front_end (l ++ (10 ∷ rest)) ≡ length l
 unfolding front_end

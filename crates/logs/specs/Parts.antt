@@ -41,3 +41,7 @@ pub record Ran (l : List ℕ) (from end value : ℕ) : Type 0 where
 -- what the digits between two places say modulo 2^32, where digits stand there
 unfoldable pub digits_said : ℕ → List ℕ → ℕ → ℕ → Option ℕ
 digits_said base l from to = pick (digits_in base l from to) (Some (value_from base 0 (part l from to) % 2 ^ 32)) None
+
+-- the number beside it, where they are no digits too: 0 where the text is too short
+unfoldable pub value_said : ℕ → List ℕ → ℕ → ℕ → ℕ
+value_said base l from to = pick (leb to (length l)) (value_from base 0 (part l from to) % 2 ^ 32) 0

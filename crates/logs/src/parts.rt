@@ -3,7 +3,7 @@ ghost use Rattle.std.specs.Prelude.{◌≡◌, ◌≤◌, get_or, length};
 ghost use Rattle.std.specs.Bool.{then_some};
 ghost use Rattle.text.specs.Digits.{between};
 ghost use Rattle.logs.specs.Outcomes.{data_bytes};
-ghost use Rattle.logs.specs.Parts.{end_of, values_from, pairs_from, digits_said, Ran};
+ghost use Rattle.logs.specs.Parts.{end_of, values_from, pairs_from, digits_said, value_said, Ran};
 
 use crate::answer::DataBytes;
 
@@ -67,7 +67,8 @@ pub fn pass(text: &[u8], from: usize, low: u8, high: u8) -> usize
 // at side by side.
 pub fn digits_in(text: &[u8], from: usize, to: usize, base: u64) -> Digits
     requires { (from ≤ to) × (base ≤ 16) }
-    ensures { then_some result.good result.value ≡ digits_said base text.now from to }
+    ensures said { then_some result.good result.value ≡ digits_said base text.now from to }
+    ensures value { result.value ≡ value_said base text.now from to }
 {
     let Some(digits) = text.get(from..to) else {
         return Digits {

@@ -5,12 +5,14 @@ use mathlib.Core.List.{List, [], ◌∷◌, ◌++◌}
 use Prim.Native.Nat.{ℕ, zero, suc, ◌≤◌}
 use native.Mathlib.Omega.{arith}
 use borrow.Author.Tests.{eqb-true, eq-eqb}
-use lib.ListN.{length, take, drop, length-take, length-drop}
+use lib.ListN.{length, get_or, take, drop, length-take, length-drop}
 use lib.Seq.{length-take-le}
 use Rattle.std.specs.Prelude.{Ok, Err}
 use Rattle.identifiers.proofs.LawsChoice.{pick_true, pick-false, both_true, so}
 use Rattle.sheet.specs.Sheets.{sheet_read}
 use Rattle.sheet.specs.Fields.{SheetRead}
+use Rattle.sheet.proofs.LawsFields.{Head}
+use Rattle.sheet.proofs.LawsReadings.{accepted-whole, accepted-length}
 use Rattle.mending.specs.Pieces.{accepts, is_reading, begins, Piece, Kept, ended, walk}
 
 -- ---- a whole valid reading
@@ -31,6 +33,26 @@ begins-judged s r l e = so (eq-eqb _ _ (length-take-le 17 s l)) (ap accepts (sym
 pub begins-whole : (s : List ℕ) → begins s ≡ true → 17 ≤ length s
 unfolding begins
 begins-whole s e = omega (arith, (reading-is (take 17 s) e).0, length-take 17 s)
+
+-- a reading begins with the tag and the length of its first field; where a byte of these is another, none does
+reading-head : (bytes : List ℕ) → is_reading bytes ≡ true → Head bytes 0 1 1
+reading-head bytes e = let h = reading-is bytes e in (accepted-whole bytes 0 h.1 (omega (arith, accepted-length bytes h.1, h.0))).first
+
+no-reading : (bytes : List ℕ) → (Head bytes 0 1 1 → ⊥) → false ≡ is_reading bytes
+no-reading bytes n = by-test (is_reading bytes) refl
+  where
+    by-test : (t : Bool) → is_reading bytes ≡ t → false ≡ is_reading bytes
+    by-test true e = absurd (n (reading-head bytes e))
+    by-test false e = sym e
+
+pub other_tag : (bytes : List ℕ) → (get_or bytes 0 0 ≡ 1 → ⊥) → false ≡ is_reading bytes
+other_tag bytes n = no-reading bytes (λ h. n h.tagged)
+
+pub other_high : (bytes : List ℕ) → (get_or bytes 1 0 ≡ 0 → ⊥) → false ≡ is_reading bytes
+other_high bytes n = no-reading bytes (λ h. n h.high)
+
+pub other_low : (bytes : List ℕ) → (get_or bytes 2 0 ≡ 1 → ⊥) → false ≡ is_reading bytes
+other_low bytes n = no-reading bytes (λ h. n h.low)
 
 pub begins-not : (s : List ℕ) → (sheet_read (take 17 s) ≡ Ok tt → ⊥) → begins s ≡ false
 unfolding begins

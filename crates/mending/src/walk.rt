@@ -10,12 +10,15 @@ use sheet::{MOST_INPUT, PAGE, READING_SIZE, read_sheet};
 use text::put;
 
 // Whether a whole valid reading begins with the first byte.
-#[tactic(auto, unfolding(crate::specs::Pieces::begins, crate::specs::Pieces::is_reading, crate::specs::Pieces::accepts, identifiers::specs::Choice::both))]
+// The tag and the length of its first field are looked at first: most bytes begin none, and `read_sheet` takes long to say so of each.
+#[tactic(auto, using(crate::proofs::LawsWalk::other_tag, crate::proofs::LawsWalk::other_high, crate::proofs::LawsWalk::other_low), unfolding(crate::specs::Pieces::begins, crate::specs::Pieces::is_reading, crate::specs::Pieces::accepts, identifiers::specs::Choice::both))]
 fn begins(rest: &[u8]) -> bool
     ensures { result ≡ begins rest.now }
 {
-    rest.get(..READING_SIZE)
-        .is_some_and(|reading| read_sheet(reading).is_ok())
+    let Some(reading @ [1, 0, 1, ..]) = rest.get(..READING_SIZE) else {
+        return false;
+    };
+    read_sheet(reading).is_ok()
 }
 
 // Puts the kept readings at the start of their array, and the list of dropped stretches at the start of the page. The bytes from

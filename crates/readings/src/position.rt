@@ -120,7 +120,9 @@ impl Position {
     pub fn after(source: u8) -> Result<Position, Refusal>
         ensures { result ≡ taken_after source }
     {
-        let predecessor = Position::of_address(source).ok_or(Refusal::NoAddress)?;
+        let Some(predecessor) = Position::of_address(source) else {
+            return Err(Refusal::NoAddress);
+        };
         predecessor.successor().ok_or(Refusal::NoAddress)
     }
 }

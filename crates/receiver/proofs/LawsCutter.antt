@@ -23,7 +23,7 @@ pub ruleset none_rules = (none-16)
 
 -- a frame is none that is refused
 abbrev IsDone : Result FrameCut Refusal → Type 0
-IsDone c = c ≡ Err (refusal 16) → ⊥
+IsDone c = (why : Refusal) → c ≡ Err why → ⊥
 
 -- all its numbers but the refusal's are 0
 pub none_told : cut_told no_frame ≡ record { refusal = 16; length = 0; identifier = 0; «data» = replicate 8 0 }
@@ -65,7 +65,7 @@ module _ (message : List ℕ) (k from to unit : ℕ) where
   unfolding between
   between-refused None u a b e = no_sender (position-none from a)
   between-refused (Some s) None a b e = no_receiver (position-none to b)
-  between-refused (Some s) (Some r) a b e = absurd (piece-done s r unit message k e)
+  between-refused (Some s) (Some r) a b e = absurd (piece-done s r unit message k _ e)
 
   refused-uncut : (same past : Bool) → eqb from to ≡ same → leb (frame_count (length message)) k ≡ past
       → pick (either same past) no_frame (between (position_at from) (position_at to) (λ s r. piece_of s r unit message k)) ≡ Err (refusal 16) → Uncut message k from to

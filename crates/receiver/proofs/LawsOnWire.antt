@@ -4,7 +4,6 @@ use Rattle.std.proofs.Common.{◌≡◌, ℕ, suc, ◌+◌, ◌-◌, ◌*◌, �
 use borrow.Author.Tests.{lt-leb}
 use Rattle.identifiers.specs.Choice.{pick}
 use Rattle.identifiers.specs.Bytes.{written}
-use Rattle.identifiers.specs.Refusals.{refusal}
 use Rattle.identifiers.specs.Identifiers.{formula, reserved_bit, fields_of, written_as}
 use Rattle.identifiers.specs.declared.identifier.Identifier.{Identifier}
 use Rattle.identifiers.proofs.LawsChoice.{pick_true, pick-false, right-decides}
@@ -63,9 +62,9 @@ module _ (sender receiver : Position) where
       rw (same, whole, ← length-append head bytes) (sym (framed_is (length (head ++ bytes)) (written (replicate 8 0) 0 (head ++ bytes))))
 
   -- it is no refusal
-  pub headed-done : (head bytes : List ℕ) → headed sender receiver head bytes ≡ Err (refusal 16) → ⊥
+  pub headed-done : (head bytes : List ℕ) (why : Refusal) → headed sender receiver head bytes ≡ Err why → ⊥
   unfolding headed
-  headed-done head bytes e = let f = framed_is (length (head ++ bytes)) (written (replicate 8 0) 0 (head ++ bytes)) in cc
+  headed-done head bytes why e = let f = framed_is (length (head ++ bytes)) (written (replicate 8 0) 0 (head ++ bytes)) in cc
 
 -- ---- a frame of a message from one position to another
 module _ (sender receiver : Position) (unit : ℕ) (m : List ℕ) (other : place_of sender ≢ place_of receiver) where

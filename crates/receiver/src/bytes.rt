@@ -9,3 +9,14 @@ pub fn store(buffer: &mut [u8], at: usize, bytes: &[u8])
 {
     buffer[at..at + bytes.len()].copy_from_slice(bytes);
 }
+
+// As `store`, byte by byte. Where the compiler knows neither how many bytes there are nor that they lie outside the buffer, copied at once
+// they would be a call of `memmove`; an archive calls `memcpy` and `memset` alone.
+pub fn store_each(buffer: &mut [u8], at: usize, bytes: &[u8])
+    requires { at + length bytes.now ≤ length buffer.old }
+    ensures { buffer.new ≡ written buffer.old at bytes.now }
+{
+    for i in 0..bytes.len() {
+        buffer[at + i] = bytes[i];
+    }
+}

@@ -6,7 +6,7 @@ ghost use Rattle.receiver.specs.Receptions.{closed};
 ghost use Rattle.receiver.specs.Wire.{IsFirst};
 ghost use Rattle.receiver.specs.Steps.{gap_of, left_of, taken_step, followed, step_of, Gives};
 
-use crate::bytes::store;
+use crate::bytes::{store, store_each};
 use crate::frame::Judged;
 use crate::offered::Offered;
 use crate::outcome::Outcome;
@@ -62,7 +62,7 @@ impl Sound {
             };
             return Outcome::Taken { from };
         }
-        store(buffer, at, &frame.data[2..2 + left]);
+        store_each(buffer, at, &frame.data[2..2 + left]);
         self.close();
         Outcome::Train {
             from,

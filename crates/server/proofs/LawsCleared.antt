@@ -1,22 +1,26 @@
--- What a clear does, place by place, and that the rules of a record outlive a clear and a setting.
+-- What a clear does, place by place and by one place, and that the rules of a record outlive a clear and a setting.
 use mathlib.Core.Path.{◌≡◌, refl, sym, ap, ◌∙◌}
 use mathlib.Core.Bool.{Bool, true, false, false≢true}
-use mathlib.Core.Logic.{◌⊎◌, inl, inr, ⊎_elim}
-use mathlib.Core.List.{List, [], ◌∷◌}
+use mathlib.Core.Logic.{◌≢◌, ◌⊎◌, inl, inr, ⊎_elim}
+use mathlib.Core.List.{List, [], ◌∷◌, ◌++◌}
 use Prim.Native.Nat.{ℕ, zero, suc, ◌<◌, ◌≤◌}
 use native.Mathlib.Nat.{eq-or-lt_of_le}
 use native.Mathlib.Omega.{arith}
-use borrow.Author.Tests.{eq-eqb}
+use borrow.Author.Tests.{eq-eqb, ne_eqb}
 use lib.Bits.{bit_and, and_self}
-use lib.ListN.{get_or, set, length, length-set}
+use lib.ListN.{get_or, set, length, length-set, drop, replicate}
 use lib.Seq.{get_or-set_same, get_or-set_other}
 use Rattle.identifiers.specs.Choice.{pick}
+use Rattle.identifiers.proofs.LawsChoice.{left-holds, right-holds, right-decides}
 use Rattle.identifiers.proofs.LawsBelow.{all-at, all-each}
-use Rattle.server.specs.Trailer.{codes_below, status_within, statuses_within, lengths_within, sound_record, with_statuses}
+use Rattle.server.specs.Places.{place_among, held_among}
+use Rattle.server.specs.Trailer.{ascending, codes_below, status_within, statuses_within, lengths_within, sound_record, with_statuses}
 use Rattle.server.specs.Faults.{in_group, stored_below, cleared_of}
 use Rattle.server.specs.declared.trailer.TrailerRecord.{TrailerRecord}
 use Rattle.server.proofs.LawsMask.{and_assoc}
-use Rattle.server.proofs.LawsTrailer.{sound-has, sound-from}
+use Rattle.server.proofs.LawsPlaces.{held_at, not-held}
+use Rattle.server.proofs.LawsFaults.{stored-nowhere, stored-once, stored-everywhere}
+use Rattle.server.proofs.LawsTrailer.{ascend-apart, sound-has, sound-from}
 
 -- ---- a mask that is applied twice
 pub mask-twice : (a m : ℕ) → bit_and (bit_and a m) m ≡ bit_and a m
@@ -78,6 +82,28 @@ module _ (t : TrailerRecord) (group : ℕ) where
   pub length-cleared : length (cleared_of t group) ≡ length t.statuses
   unfolding cleared_of
   length-cleared = length-stored _ _ _ t.count
+
+-- ---- a group that is one code: of codes that ascend one place has it, or none
+module _ (codes : List ℕ) (count group status : ℕ) (statuses : List ℕ) (one : group ≢ 0xFFFFFF) where
+  other : (code : ℕ) → code ≢ group → in_group group code ≡ false
+  unfolding in_group
+  other code n = sym (right-decides (ne_eqb _ _ one) (sym (ne_eqb _ _ n)))
+
+  pub group_at : ascending codes count ≡ true → held_among codes count group ≡ true → set statuses (place_among codes count group) status ≡ stored_below (λ i. in_group group (get_or codes i 0)) status statuses count
+  unfolding in_group
+  group_at a e =
+      let at = held_at codes count group e in
+      stored-once _ _ _ count _ at.0 (sym (right-holds _ (eq-eqb _ _ at.1)))
+      (λ i l. other _ (λ q. absurd (omega (arith, at.1, ascend-apart codes count i (place_among codes count group) a l at.0))))
+      (λ i l m. other _ (λ q. absurd (omega (arith, at.1, ascend-apart codes count (place_among codes count group) i a l m))))
+
+  pub group-nowhere : held_among codes count group ≡ false → statuses ≡ stored_below (λ i. in_group group (get_or codes i 0)) status statuses count
+  group-nowhere e = stored-nowhere _ _ _ count (λ i l. other _ (not-held codes count group e i l))
+
+-- ---- the group of all
+pub group-everywhere : (codes : List ℕ) (count group status : ℕ) (statuses : List ℕ) → group ≡ 0xFFFFFF → count ≤ length statuses → replicate count status ++ drop count statuses ≡ stored_below (λ i. in_group group (get_or codes i 0)) status statuses count
+unfolding in_group
+group-everywhere codes count group status statuses e l = stored-everywhere _ status statuses count l (λ i m. sym (left-holds _ (eq-eqb _ _ e)))
 
 -- ---- the rules outlive a clear and a setting
 -- an element after a store is what it was, or what was stored

@@ -1,14 +1,15 @@
--- Laws of the fault codes: what is listed and how long it is, and the loop that stores.
-use mathlib.Core.Path.{◌≡◌, refl, ap, ◌∙◌}
+-- Laws of the fault codes: what is listed and how long it is, and what is stored.
+use mathlib.Core.Path.{◌≡◌, refl, sym, ap, ◌∙◌}
 use mathlib.Core.Bool.{Bool, true, false, not}
-use mathlib.Core.List.{List, []}
-use mathlib.Core.Logic.{◌≢◌, ◌↔◌}
-use Prim.Native.Nat.{ℕ, zero, suc, ◌+◌, ◌*◌, ◌≤◌}
+use mathlib.Core.List.{List, [], ◌∷◌, ◌++◌}
+use mathlib.Core.Logic.{◌≢◌, ◌↔◌, ⊎_elim}
+use Prim.Native.Nat.{ℕ, zero, suc, ◌+◌, ◌*◌, ◌<◌, ◌≤◌}
+use native.Mathlib.Nat.{eq-or-lt_of_le}
 use native.Mathlib.Numerals.{add-one}
 use native.Mathlib.Omega.{arith}
 use borrow.Author.Tests.{eqb-false, ne_eqb, not-true}
 use lib.Bits.{bit_and}
-use lib.ListN.{get_or, set, length, length-append, take}
+use lib.ListN.{get_or, set, length, length-append, take, drop, replicate}
 use Rattle.identifiers.specs.Choice.{pick, either}
 use Rattle.identifiers.specs.Below.{count_below, list_below}
 use Rattle.identifiers.proofs.LawsChoice.{taken, pick-false}
@@ -69,7 +70,13 @@ pub count-listed-le : (t : TrailerRecord) (all : Bool) (mask : ℕ) → count_li
 unfolding count_listed
 count-listed-le t all mask = count-le _ t.count
 
--- ---- a loop that stores one status at the places that have p
+-- one element more of a row
+row : (n a : ℕ) (l : List ℕ) → n < length l → set (replicate n a ++ drop n l) n a ≡ replicate (suc n) a ++ drop (suc n) l
+row n a [] h = absurd (omega (arith, h))
+row zero a (x ∷ l) h = refl
+row (suc n) a (x ∷ l) h = ap (λ (xs : List ℕ). a ∷ xs) (row n a l (omega (arith, h)))
+
+-- ---- one status stored at the places that have p
 module _ (p : ℕ → Bool) (status : ℕ) (statuses : List ℕ) where
   pub stored-none : stored_below p status statuses 0 ≡ statuses
   unfolding stored_below
@@ -79,6 +86,21 @@ module _ (p : ℕ → Bool) (status : ℕ) (statuses : List ℕ) where
   unfolding stored_below pick
   stored-hit n e = rw (add-one n, e)
 
-  pub stored-miss : (n : ℕ) → p n ≡ false → stored_below p status statuses n ≡ stored_below p status statuses (n + 1)
+  -- nothing is stored where no place has p, and one status where one place has it
+  pub stored-nowhere : (n : ℕ) → ((i : ℕ) → i < n → p i ≡ false) → statuses ≡ stored_below p status statuses n
   unfolding stored_below pick
-  stored-miss n e = rw (add-one n, e)
+  stored-nowhere zero h = refl
+  stored-nowhere (suc n) h = rw (h n (omega arith)) (stored-nowhere n (λ i l. h i (omega arith)))
+
+  pub stored-once : (n place : ℕ) → place < n → p place ≡ true → ((i : ℕ) → i < place → p i ≡ false) → ((i : ℕ) → place < i → i < n → p i ≡ false) → set statuses place status ≡ stored_below p status statuses n
+  unfolding stored_below pick
+  stored-once zero place l e before behind = absurd (omega arith)
+  stored-once (suc n) place l e before behind =
+      ⊎_elim (λ (q : place ≡ n). rw (ap p (sym q) ∙ e, q) (ap (λ (xs : List ℕ). set xs n status) (stored-nowhere n (λ i m. before i (omega arith)))))
+      (λ (q : place < n). rw (behind n q (omega arith)) (stored-once n place q e before (λ i m o. behind i m (omega arith)))) (eq-or-lt_of_le (omega arith))
+
+  -- and a row of it where each of them has it
+  pub stored-everywhere : (n : ℕ) → n ≤ length statuses → ((i : ℕ) → i < n → p i ≡ true) → replicate n status ++ drop n statuses ≡ stored_below p status statuses n
+  stored-everywhere zero l h = sym stored-none
+  stored-everywhere (suc n) l h =
+      sym (row n status statuses (omega (arith, l))) ∙ ap (λ (xs : List ℕ). set xs n status) (stored-everywhere n (omega (arith, l)) (λ i m. h i (omega (arith, m)))) ∙ stored-hit n (h n (omega arith)) ∙ ap (stored_below p status statuses) (add-one n)

@@ -87,6 +87,12 @@ codes-by-last codes count l = by (ascending codes count) (ltb (get_or codes (cou
     by true false p q = stop true (all-fails _ (count - 1) count (omega arith) q)
     by true true p q = so (all-each _ count (λ i h. lt-ltb (get_or codes i 0) 0xFFFFFF (omega (arith, last-greatest codes (count - 1) p i (omega arith), ltb-true (get_or codes (count - 1) 0) 0xFFFFFF q)))) refl
 
+-- none of those that ascend stands at two places
+pub ascend-apart : (codes : List ℕ) (n i j : ℕ) → ascending codes n ≡ true → i < j → j < n → get_or codes i 0 < get_or codes j 0
+unfolding ascending
+ascend-apart codes n i j e l m =
+    omega (arith, ltb-true (get_or codes i 0) (get_or codes (i + 1) 0) (all-at _ i (n - 1) e (omega arith)), last-greatest codes j (all-each _ j (λ k h. all-at _ k (n - 1) e (omega arith))) (i + 1) (omega arith))
+
 -- ---- the statuses: of none no bit is outside the mask, and of two together none where none is of each
 pub none_within : (availability : ℕ) → status_within availability 0 ≡ true
 unfolding status_within

@@ -2,13 +2,14 @@
 ghost use Rattle.std.specs.Prelude.{◌≡◌};
 ghost use Rattle.server.specs.Codes.{code_number};
 
+// Two checks end in IncorrectLength: it stands last, since on Arm the numbers of the others then lie in one word, and none in a table.
 #[derive(Clone, Copy, Debug, PartialEq, Eq)]
 pub enum NegativeCode {
     ServiceNotSupported = 0x11,
     SubFunctionNotSupported = 0x12,
-    IncorrectLength = 0x13,
     ResponseTooLong = 0x14,
     RequestOutOfRange = 0x31,
+    IncorrectLength = 0x13,
 }
 
 impl NegativeCode {

@@ -1,11 +1,11 @@
 // Services 14 and 19: the fault codes held, counted, listed and cleared.
-ghost use Rattle.std.specs.Prelude.{◌≡◌, ◌+◌, ◌*◌, ◌≤◌, length, get_or};
+ghost use Rattle.std.specs.Prelude.{◌≡◌, true, ◌+◌, ◌*◌, ◌≤◌, length, get_or};
 ghost use Rattle.identifiers.specs.Below.{count_below, list_below};
 ghost use Rattle.identifiers.specs.Bytes.{Puts};
-ghost use Rattle.server.specs.Trailer.{with_statuses};
-ghost use Rattle.server.specs.Faults.{listed, code_and_status, two_bytes, report_of, in_group, stored_below, cleared_of};
+ghost use Rattle.server.specs.Trailer.{ascending, with_statuses};
+ghost use Rattle.server.specs.Faults.{listed, code_and_status, two_bytes, report_of, cleared_of};
 
-use crate::places::count_where;
+use crate::places::{count_where, place_of};
 use crate::sound::Sound;
 use crate::trailer::TrailerRecord;
 
@@ -79,31 +79,21 @@ impl Sound<'_> {
     }
 }
 
-// Stores one status at each code of a group: by the place, since of what `iter_mut` writes a proof knows no element. A store at every code: where
-// only those of the group are written, `14` takes 1.18 of the time of the model, so 0.96. The reach of requests is 1.1.
-fn store_group(codes: &[u32; 63], statuses: &mut [u8; 63], count: usize, group: u32, status: u8)
-    requires { count ≤ 63 }
-    ensures { statuses.new ≡ stored_below (λ i. in_group group (get_or codes.now i 0)) status statuses.old count }
-{
-    for i in 0..count {
-        let in_group = (group == ALL_GROUPS) | (codes[i] == group);
-        statuses[i] = if in_group { status } else { statuses[i] };
-    }
-}
-
 impl TrailerRecord {
-    // Clears the statuses of a group. The count's limit is asked here: a `Sound` can't be held while the record is lent to be written.
+    // Clears the statuses of a group. Of codes that ascend one is the group, or none, so that one status is stored, where it lies: a choice at
+    // each place takes `14` 1.2 to 1.6 of the time. The rules are asked here: a `Sound` can't be held while the record is lent to be written.
     pub(crate) fn clear(&mut self, group: u32)
-        requires { self.old.count ≤ 63 }
+        requires { (self.old.count ≤ 63) × (ascending self.old.codes self.old.count ≡ true) }
         ensures { self.new ≡ with_statuses self.old (cleared_of self.old group) }
     {
+        let count = self.count as usize;
         let status = 0x50 & self.availability;
-        store_group(
-            &self.codes,
-            &mut self.statuses,
-            self.count as usize,
-            group,
-            status,
-        );
+        if group == ALL_GROUPS {
+            self.statuses[..count].fill(status);
+            return;
+        }
+        if let Some(place) = place_of(&self.codes[..count], &group) {
+            self.statuses[place] = status;
+        }
     }
 }

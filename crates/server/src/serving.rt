@@ -1,9 +1,9 @@
 // The server by value: the record goes in, and its statuses come back.
-ghost use Rattle.std.specs.Prelude.{◌≡◌, ◌≤◌, length, Some, None, Ok};
+ghost use Rattle.std.specs.Prelude.{◌≡◌, true, ◌≤◌, length, Some, None, Ok};
 ghost use Rattle.identifiers.specs.Choice.{pick, both};
 ghost use Rattle.identifiers.specs.Bytes.{written};
 ghost use Rattle.server.specs.Codes.{code_number};
-ghost use Rattle.server.specs.Trailer.{with_statuses};
+ghost use Rattle.server.specs.Trailer.{ascending, with_statuses};
 ghost use Rattle.server.specs.Silence.{silenced, quiet_code};
 ghost use Rattle.server.specs.Server.{negative_of, negative_bytes, positive_of, changed_by, wrong_lengths, served_of};
 ghost use Rattle.server.specs.Told.{reply_told};
@@ -92,9 +92,9 @@ impl Sound<'_> {
 }
 
 impl TrailerRecord {
-    // What a request that is answered positively changes. The count's limit, as at `clear`.
+    // What a request that is answered positively changes. The rules, as at `clear`.
     fn change(&mut self, asked: Request)
-        requires { self.old.count ≤ 63 }
+        requires { (self.old.count ≤ 63) × (ascending self.old.codes self.old.count ≡ true) }
         ensures { self.new ≡ changed_by self.old (Ok asked) }
     {
         if let Request::ClearGroup { group } = asked {

@@ -1,20 +1,29 @@
 -- Laws of one field: the rungs of its refusals, one law each, and where the bytes of a field that passes a rung stand.
 use Rattle.std.specs.Prelude.{Ok}
-use mathlib.Core.Path.{◌≡◌, sym, ap, ◌∙◌}
+use mathlib.Core.Path.{◌≡◌, refl, sym, ap, ◌∙◌}
 use mathlib.Core.Bool.{true, false, not}
 use mathlib.Core.List.{List}
 use Prim.Native.Nat.{ℕ, ◌+◌, ◌-◌, ◌*◌, ◌≤◌, ◌<◌}
 use native.Mathlib.Omega.{arith}
-use borrow.Author.Tests.{leb-true, ltb-false, eqb-true, le-ltb, eq-eqb, ne_eqb, not-false}
+use borrow.Author.Tests.{leb-true, ltb-false, eqb-true, lt-ltb, le-ltb, eq-eqb, ne_eqb, not-false}
+use lib.Dec.{ltb}
 use lib.ListN.{length, get_or, take, drop, length-drop}
 use lib.Seq.{take_all, get_or-drop}
 use Rattle.identifiers.specs.Refusals.{refusal}
 use Rattle.identifiers.specs.declared.refusal.Refusal.{Refusal}
 use Rattle.sheet.specs.declared.sheet_read.RefusedAt.{RefusedAt}
-use Rattle.identifiers.proofs.LawsChoice.{pick_true, pick-false, was-passed, was-taken, both_true, right-decides, either-false}
-use Rattle.sheet.specs.Fields.{refused_at, pair_at, cut_short, size_of, wrong_form, sound_position, sound_response, sound_content, field_read}
+use Rattle.identifiers.proofs.LawsChoice.{pick_true, pick-false, was-passed, was-taken, both_true, left-holds, right-decides, either-false}
+use Rattle.sheet.specs.Fields.{refused_at, pair_at, bytes_left, cut_short, size_of, wrong_form, sound_position, sound_response, sound_content, field_read}
 
 -- ---- 22
+pub cut-head : (s : List ℕ) (at : ℕ) → bytes_left s at < 3 → true ≡ cut_short s at
+unfolding cut_short
+cut-head s at h = left-holds _ (lt-ltb _ _ h)
+
+pub cut-content : (s : List ℕ) (at : ℕ) → 3 ≤ bytes_left s at → ltb (bytes_left s at - 3) (pair_at s (at + 1)) ≡ cut_short s at
+unfolding cut_short
+cut-content s at h = right-decides (le-ltb _ _ h) refl
+
 -- a field that is not cut short stands whole in the input
 pub uncut-whole : (s : List ℕ) (at : ℕ) → cut_short s at ≡ false → at + 3 + pair_at s (at + 1) ≤ length s
 unfolding cut_short

@@ -2,6 +2,9 @@
 ghost use Rattle.std.specs.Prelude.{◌≡◌};
 ghost use Rattle.sheet.specs.Basis.{basis_of};
 ghost use Rattle.sheet.specs.Text.{word_of};
+ghost use Rattle.text.specs.Putting.{PutsIfFits};
+
+use text::put;
 
 // `None` is a word that is printed, as the other two are, and no basis that is missing.
 #[derive(Clone, Copy, Debug, PartialEq, Eq)]
@@ -26,14 +29,16 @@ pub fn basis_of(mask: u8, available: u8) -> Basis
 }
 
 impl Basis {
+    // Put in each case: as a text that is handed out the three would stand in a table, and on Arm an archive has no constants but the index
+    // for unwinding.
     #[tactic(auto, unfolding(crate::specs::Text::word_of))]
-    pub(crate) fn word(self) -> &'static [u8]
-        ensures { result.now ≡ word_of self }
+    pub(crate) fn put_word(self, page: &mut [u8], at: usize) -> usize
+        ensures { PutsIfFits page.old at (word_of self) result page.new }
     {
         match self {
-            Basis::None => b"none",
-            Basis::Full => b"full",
-            Basis::Part => b"part",
+            Basis::None => put(page, at, b"none"),
+            Basis::Full => put(page, at, b"full"),
+            Basis::Part => put(page, at, b"part"),
         }
     }
 }

@@ -61,6 +61,7 @@ pub fn put_line(page: &mut [u8], at: usize, reading: CountReading) -> usize
     ensures { Puts page.old at (line_of reading) result page.new }
 {
     let word = put_numbers(page, at, reading);
-    let end = put(page, word, basis_of(reading.mask, reading.available).word());
+    let basis = basis_of(reading.mask, reading.available);
+    let end = basis.put_word(page, word);
     put(page, end, b"\n")
 }

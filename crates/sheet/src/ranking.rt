@@ -67,11 +67,11 @@ fn put_ranking(page: &mut [u8; PAGE], input: &[u8], mask: u8) -> usize
     requires { (readings_in input.now ≤ most_places) × (36 + 23 * readings_in input.now ≤ length page.old) }
     ensures { Puts page.old 0 (header ++ lines_at input.now (ranked input.now mask ++ excluded input.now mask)) result page.new }
 {
-    let start = put_header(page);
     let mut standings = [0; MOST_PLACES];
     let mut places = [0; MOST_PLACES];
     let found = gather(input, mask, &mut standings, &mut places);
     sort(&standings, &mut places[..found]);
+    let start = put_header(page);
     put_places(page, start, input, &places[..found])
 }
 

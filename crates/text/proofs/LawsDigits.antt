@@ -2,7 +2,7 @@
 use mathlib.Core.Path.{◌≡◌, refl, ap, ◌∙◌}
 use mathlib.Core.Bool.{Bool, true, false, cond}
 use mathlib.Core.List.{List, [], ◌∷◌, ◌++◌}
-use Prim.Native.Nat.{ℕ, zero, suc, ◌+◌, ◌-◌, ◌*◌, ◌/◌, ◌%◌, ◌^◌, ◌≤◌, ◌<◌, max}
+use Prim.Native.Nat.{ℕ, zero, suc, ◌+◌, ◌-◌, ◌*◌, ◌/◌, ◌%◌, ◌^◌, ◌≤◌, ◌<◌}
 use native.Mathlib.Nat.{pow-suc}
 use native.Mathlib.Omega.{arith}
 use borrow.Author.Tests.{ltb-true, ltb-false, lt-ltb, le-ltb, ne_eqb}
@@ -93,13 +93,6 @@ length-one n l = ap length (decimal-one n l)
 
 pub length_more : (n : ℕ) → 10 ≤ n → length (decimal n) ≡ length (decimal (n / 10)) + 1
 length_more n l = ap length (decimal-more n l) ∙ length-append (decimal (n / 10)) ((48 + n % 10) ∷ [])
-
--- a number has one place more than the largest power of ten that is not above it, or above 1
-pub length_is : (n k : ℕ) → 10 ^ k ≤ max n 1 → n < 10 * 10 ^ k → length (decimal n) ≡ k + 1
-length_is n zero h l = length-one n (omega arith)
-length_is n (suc k) h l =
-    let p : 10 ^ suc k ≡ 10 ^ k * 10 = pow-suc 10 k in
-    omega (arith, p, length_more n (omega (arith, p, below_power k)), length_is (n / 10) k (omega (arith, p, below_power k)) (omega (arith, p)))
 
 -- no number is without a digit
 pub length_some : (n : ℕ) → 1 ≤ length (decimal n)

@@ -1,5 +1,5 @@
 -- Laws of texts put where they fit: what room says, what follows where there is room and where there is none, and digits put from the last one on.
-use mathlib.Core.Path.{◌≡◌, refl, sym, ap, ap₂, ◌∙◌}
+use mathlib.Core.Path.{◌≡◌, refl, sym, ap, ◌∙◌}
 use mathlib.Core.Bool.{Bool, true, false}
 use mathlib.Core.List.{List, [], ◌∷◌, ◌++◌}
 use Prim.Native.Nat.{ℕ, ◌+◌, ◌/◌, ◌%◌, ◌≤◌, ◌<◌}
@@ -92,37 +92,38 @@ written_last buffer at xs d =
     ∙ (puts-byte (written buffer at xs) (at + length xs) d).holds
     ∙ sym (written-append buffer at xs (d ∷ []))
 
--- a loop that puts a number's digits from the last one on: with the digits of the rest, up to the place behind them, all stand; or all stand already
-pub data ToPut (before : List ℕ) (at number : ℕ) (buffer : List ℕ) (rest end : ℕ) : Type 0 where
-  digits_left : end ≡ at + length (decimal rest) → written buffer at (decimal rest) ≡ written before at (decimal number) → ToPut before at number buffer rest end
-  none_left : end ≡ at → buffer ≡ written before at (decimal number) → ToPut before at number buffer rest end
+-- a loop that puts a number's digits from the last one on: with the digits of the rest, up to the place behind them, all stand
+pub record ToPut (before : List ℕ) (at number : ℕ) (buffer : List ℕ) (rest end : ℕ) : Type 0 where
+  pub ends : end ≡ at + length (decimal rest)
+  pub gives : written buffer at (decimal rest) ≡ written before at (decimal number)
 
-pub to-put-more : {before : List ℕ} {at number : ℕ} {buffer : List ℕ} {rest end : ℕ} (place : ℕ) → at ≤ place → end ≡ place + 1 → ToPut before at number buffer rest end
-    → ToPut before at number (set buffer place (48 + rest % 10)) (rest / 10) place
-to-put-more place l p (none_left e g) = absurd (omega arith)
-to-put-more {before} {at} {number} {buffer} {rest} place l p (digits_left e g) = by-size (ltb rest 10) refl
-  where
-    by-size : (t : Bool) → ltb rest 10 ≡ t → ToPut before at number (set buffer place (48 + rest % 10)) (rest / 10) place
-    by-size true q =
-        let h : rest < 10 = ltb-true _ _ q in
-        let here : place ≡ at = omega (arith, length-one rest h) in
-        let same : rest % 10 ≡ rest = omega arith in
-        none_left here (
-        ap₂ (λ (k d : ℕ). set buffer k (48 + d)) here same
-        ∙ (puts-byte buffer at (48 + rest)).holds
-        ∙ ap (written buffer at) (sym (decimal-one rest h))
-        ∙ g
-        )
-    by-size false q =
-        let h : 10 ≤ rest = ltb-false _ _ q in
-        let here : place ≡ at + length (decimal (rest / 10)) = omega (arith, length_more rest h) in
-        digits_left here (
-        ap (λ (k : ℕ). written (set buffer k (48 + rest % 10)) at (decimal (rest / 10))) here
-        ∙ written_last buffer at (decimal (rest / 10)) (48 + rest % 10)
-        ∙ ap (written buffer at) (sym (decimal-more rest h))
-        ∙ g
-        )
+module _ {before : List ℕ} {at number : ℕ} {buffer : List ℕ} {rest end : ℕ} (t : ToPut before at number buffer rest end) where
+  pub to-put-more : (place : ℕ) → at < place → end ≡ place + 1 → ToPut before at number (set buffer place (48 + rest % 10)) (rest / 10) place
+  to-put-more place l p =
+      let h : 10 ≤ rest = to-put-some l p (ltb rest 10) refl in
+      let e : place ≡ at + length (decimal (rest / 10)) = omega (arith, t.ends, length_more rest h) in
+      record {
+        ends = e;
+        gives = ap (λ (k : ℕ). written (set buffer k (48 + rest % 10)) at (decimal (rest / 10))) e
+            ∙ written_last buffer at (decimal (rest / 10)) (48 + rest % 10)
+            ∙ ap (written buffer at) (sym (decimal-more rest h))
+            ∙ t.gives;
+      }
+    where
+      to-put-some : at < place → end ≡ place + 1 → (test : Bool) → ltb rest 10 ≡ test → 10 ≤ rest
+      to-put-some l p true q = absurd (omega (arith, t.ends, length-one rest (ltb-true _ _ q)))
+      to-put-some l p false q = ltb-false _ _ q
 
-pub to-put-done : {before : List ℕ} {at number : ℕ} {buffer : List ℕ} {rest end : ℕ} → end ≤ at → ToPut before at number buffer rest end → buffer ≡ written before at (decimal number)
-to-put-done l (none_left e g) = g
-to-put-done {rest = rest} l (digits_left e g) = absurd (omega (arith, length_some rest))
+  -- the first digit is the rest
+  pub to-put-first : end ≤ at + 1 → rest < 10
+  to-put-first l = by-size (ltb rest 10) refl
+    where
+      by-size : (test : Bool) → ltb rest 10 ≡ test → rest < 10
+      by-size true q = ltb-true _ _ q
+      by-size false q = absurd (omega (arith, t.ends, length_more rest (ltb-false _ _ q), length_some (rest / 10)))
+
+  pub to-put-done : end ≤ at + 1 → set buffer at (48 + rest) ≡ written before at (decimal number)
+  to-put-done l =
+      (puts-byte buffer at (48 + rest)).holds
+      ∙ ap (written buffer at) (sym (decimal-one rest (to-put-first l)))
+      ∙ t.gives

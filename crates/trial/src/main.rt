@@ -40,7 +40,13 @@ fn read_words(rt: HostRuntime) -> Option<Words> {
 fn count_newlines(chunk: &[u8]) -> usize
     ensures { result ≡ newlines chunk.now }
 {
-    chunk.iter().filter(|b| **b == b'\n').count()
+    let mut lines = 0;
+    for byte in chunk {
+        if *byte == b'\n' {
+            lines += 1;
+        }
+    }
+    lines
 }
 
 #[tactic(auto, using(crate::proofs::LawsCounts::lines_within))]

@@ -10,17 +10,17 @@ returns-then-not-dot-interface c = not-parted c.args.text.now c.requires c.pass-
 pub returns-then-not-good : goal.returns-then-not-good
 returns-then-not-good c =
     no-three c.args.text.now c.requires c.pass-interface.ensures c.pass-gap.ensures c.byte_at-2.ensures c.if-byte_at-eq35.true
-    (none-found _ _ c.digits_in-good.ensures c.if-not-good.true)
+    (none-found _ _ c.digits_in-good.ensures.said c.if-not-good.true)
 
 pub returns-then-byte_at-eq35 : goal.returns-then-byte_at-eq35
 returns-then-byte_at-eq35 c =
     name-three c.args.text.now c.requires c.pass-interface.ensures c.pass-gap.ensures c.byte_at-2.ensures c.byte_at.ensures c.if-not-dot-interface.false
-    c.if-byte_at-eq35.true (some-found _ _ c.digits_in-good.ensures c.if-not-good.false)
+    c.if-byte_at-eq35.true (some-found _ _ c.digits_in-good.ensures.said c.if-not-good.false)
 
 pub returns-then-not-good-2 : goal.returns-then-not-good-2
 returns-then-not-good-2 c =
     no-eight c.args.text.now c.requires c.pass-interface.ensures c.pass-gap.ensures c.byte_at-2.ensures c.if-byte_at-eq35.false
-    (none-found _ _ c.digits_in-good-2.ensures c.if-not-good-2.true)
+    (none-found _ _ c.digits_in-good-2.ensures.said c.if-not-good-2.true)
 
 pub returns-then-byte_at-ne35 : goal.returns-then-byte_at-ne35
 returns-then-byte_at-ne35 c =
@@ -29,10 +29,10 @@ returns-then-byte_at-ne35 c =
 pub returns : goal.returns
 returns c =
     name-eight c.args.text.now c.requires c.pass-interface.ensures c.pass-gap.ensures c.byte_at-2.ensures c.byte_at.ensures c.if-not-dot-interface.false
-    c.byte_at-3.ensures c.if-byte_at-eq35.false c.if-byte_at-ne35.false (some-found _ _ c.digits_in-good-2.ensures c.if-not-good-2.false)
+    c.byte_at-3.ensures c.if-byte_at-eq35.false c.if-byte_at-ne35.false (some-found _ _ c.digits_in-good-2.ensures.said c.if-not-good-2.false)
 
 pub overflow_cast-result : goal.overflow_cast-result
-overflow_cast-result c = omega (arith, digits-small _ _ _ _ (some-found _ _ c.digits_in-good-2.ensures c.if-not-good-2.false))
+overflow_cast-result c = omega (arith, digits-small _ _ _ _ (some-found _ _ c.digits_in-good-2.ensures.said c.if-not-good-2.false))
 
 pub overflow_add-dot : goal.overflow_add-dot
 overflow_add-dot c = omega (arith, c.requires, dot-close c.args.text.now)

@@ -47,7 +47,7 @@ pub answer_positively-sent-requires : goal.answer_positively-sent-requires
 answer_positively-sent-requires c = c.in-Ok.ensures.1
 
 pub change-requires : goal.change-requires
-change-requires c = (sound-has _ (checked-sound c.args.record.now c.check.ensures c.in_ok-check.was)).count
+change-requires c = let s = sound-has _ (checked-sound c.args.record.now c.check.ensures c.in_ok-check.was) in (s.count, s.ascend)
 
 -- the first 255 bytes of a buffer of 255 are all of it
 module _ (response : List ℕ) (room : length response ≡ 255) where

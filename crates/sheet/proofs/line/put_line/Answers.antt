@@ -10,5 +10,5 @@ pub returns : goal.returns
 unfolding line_of
 returns c =
     let numbers = c.put_numbers-word.ensures in
-    let word = put_on 4 1 (le_of_eq (length-word _)) (room-behind 18 5 (length-numbers _) c.requires numbers) (rw (c.word.ensures, c.basis_of.ensures) at c.put-end.ensures) in
+    let word = put_on 4 1 (le_of_eq (length-word _)) (room-behind 18 5 (length-numbers _) c.requires numbers) (rw c.basis_of-basis.ensures at c.put_word-end.ensures) in
     numbers ▸ word.0 ▸ put-fits word.1 c.put.ensures

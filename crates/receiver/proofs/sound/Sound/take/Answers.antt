@@ -45,11 +45,11 @@ returns-then-left-gt6 c =
     let o = is-open s.reception _ _ s.bytes s.rules c.requires in
     taken-gives c.args.buffer.now c.args.frame.«data».now s.reception c.args.from c.args.frame.stamp (omega (arith, c.region.ensures.0)) (omega arith) c.store.ensures
 
-pub slice_bounds-store-end-3 : goal.slice_bounds-store-end-3
-slice_bounds-store-end-3 c = let s = c.args.self.now in let o = is-open s.reception _ _ s.bytes s.rules c.requires in omega arith
+pub slice_bounds-store_each-end : goal.slice_bounds-store_each-end
+slice_bounds-store_each-end c = let s = c.args.self.now in let o = is-open s.reception _ _ s.bytes s.rules c.requires in omega arith
 
-pub store-requires-2 : goal.store-requires-2
-store-requires-2 c = let s = c.args.self.now in let o = is-open s.reception _ _ s.bytes s.rules c.requires in simp (length-take) (omega arith)
+pub store_each-requires : goal.store_each-requires
+store_each-requires c = let s = c.args.self.now in let o = is-open s.reception _ _ s.bytes s.rules c.requires in simp (length-take) (omega arith)
 
 pub overflow_cast-result : goal.overflow_cast-result
 overflow_cast-result c = let s = c.args.self.now in record { fits = omega (arith, length-byte s.reception s.bytes) }
@@ -60,4 +60,4 @@ returns c =
     let o = is-open s.reception _ _ s.bytes s.rules c.requires in
     let e : 2 + c.args.left - 2 ≡ c.args.left = omega arith in
     let last : s.reception.length - (5 + 6 * s.reception.taken) ≤ 6 = omega arith in
-    rw c.close.ensures (last-gives c.args.buffer.now c.args.frame.«data».now s.reception c.args.from c.args.frame.stamp (omega (arith, c.region.ensures.0)) last (rw (e, o.left-is) at c.store-2.ensures))
+    rw c.close.ensures (last-gives c.args.buffer.now c.args.frame.«data».now s.reception c.args.from c.args.frame.stamp (omega (arith, c.region.ensures.0)) last (rw (e, o.left-is) at c.store_each.ensures))
